@@ -1,0 +1,41 @@
+//! Plain types of registers: texts, codes, dates, points, records, and what a balance is.
+//!
+//! Means: a text is its bytes, a date its seconds, a list its elements; `records_of` in
+//! `specs/Records.antt` gives a register's records, and `balance_of` in `specs/Balances.antt`
+//! sums them. Contracts of all crates above speak of these.
+//!
+//! Stands on: `jiff` for the calendar.
+//!
+//! Promises: each `parse` accepts exactly its spelling and names the first fault; orders are
+//! total; what is printed is exactly the text that `specs/` gives.
+//!
+//! Leaves open: how much memory a text takes, and when memory is refused.
+#![tactic(auto)]
+
+mod code;
+mod comment;
+mod date;
+mod list;
+mod memory;
+mod name;
+mod point;
+mod records;
+mod scale;
+mod short_text;
+mod text;
+mod value;
+
+pub use code::Code;
+pub use comment::Comment;
+pub use date::Date;
+pub use list::List;
+pub use memory::Memory;
+pub use name::Name;
+pub use point::Point;
+pub use records::{
+    Doc, DocRow, DocState, Document, Filter, Found, Item, Mark, Mode, Posting, Rec, Sets, Side,
+    SumRow,
+};
+pub use scale::Scale;
+pub use text::Text;
+pub use value::{Cell, Value};
