@@ -43,3 +43,12 @@ impl Date {
         self.seconds
     }
 }
+
+/// Why a text is no date, point or cut.
+#[derive(Clone, Copy, Debug, PartialEq, Eq)]
+pub enum DateFault {
+    /// It does not spell a second of the calendar.
+    NotADate,
+    /// It spells one before 2000 or after 2099.
+    OutOfYears,
+}

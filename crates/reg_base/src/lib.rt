@@ -14,10 +14,12 @@
 
 mod code;
 mod comment;
+mod cut;
 mod date;
 mod list;
 mod memory;
 mod name;
+mod num;
 mod point;
 mod records;
 mod scale;
@@ -27,10 +29,12 @@ mod value;
 
 pub use code::Code;
 pub use comment::Comment;
-pub use date::Date;
+pub use cut::{Cut, inside};
+pub use date::{Date, DateFault};
 pub use list::List;
 pub use memory::Memory;
 pub use name::Name;
+pub use num::{Num, NumFault};
 pub use point::Point;
 pub use records::{
     Doc, DocRow, DocState, Document, Filter, Found, Item, Mark, Mode, Posting, Rec, Sets, Side,

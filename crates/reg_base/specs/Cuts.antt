@@ -1,0 +1,46 @@
+-- Cuts: which points lie inside one, and how one is spelt.
+use Rattle.std.specs.Prelude.{ℕ, Bool, true, ◌==◌, nat_lt, nat_le, if◌then◌else◌, List, bytes_eq, codes, Result, Ok, Err}
+use Rattle.std.specs.List.{list_any, before_first, after_first}
+use Rattle.std.specs.Ordering.{is_lt, is_le}
+use Rattle.reg_base.specs.declared.cut.Cut.{Cut}
+use Rattle.reg_base.specs.declared.cut.Cut.TheVariants.{Now, BeforeDate, ThroughDate, BeforePoint, ThroughPoint}
+use Rattle.reg_base.specs.declared.date.DateFault.{DateFault}
+use Rattle.reg_base.specs.declared.date.DateFault.TheVariants.{NotADate}
+use Rattle.reg_base.specs.declared.point.Point.{Point}
+use Rattle.reg_base.specs.Results.{◌>>=◌}
+use Rattle.reg_base.specs.Dates.{parse_date}
+use Rattle.reg_base.specs.Points.{point_cmp, parse_point}
+
+-- the points below the cut's date or point, or at most there; now has every point
+abbrev pub inside : Cut → Point → Bool
+inside Now p = true
+inside (BeforeDate d) p = nat_lt p.date d
+inside (ThroughDate d) p = nat_le p.date d
+inside (BeforePoint q) p = is_lt (point_cmp p q)
+inside (ThroughPoint q) p = is_le (point_cmp p q)
+
+-- whether the text has this byte
+abbrev pub has_byte : ℕ → List ℕ → Bool
+has_byte byte text = list_any (λ b. b == byte) text
+
+-- the cut before a place: a point where the place has `#`, and else a date
+unfoldable pub cut_before : List ℕ → Result Cut DateFault
+cut_before place =
+    if has_byte 35 place then (parse_point place >>= λ p. Ok (BeforePoint p))
+    else (parse_date place >>= λ d. Ok (BeforeDate d))
+
+-- the cut through a place
+unfoldable pub cut_through : List ℕ → Result Cut DateFault
+cut_through place =
+    if has_byte 35 place then (parse_point place >>= λ p. Ok (ThroughPoint p))
+    else (parse_date place >>= λ d. Ok (ThroughDate d))
+
+-- the cut that the text spells: `now`, `before` or `through` with a place, or a date alone
+unfoldable pub parse_cut : List ℕ → Result Cut DateFault
+parse_cut text =
+    if bytes_eq text (codes "now") then Ok Now
+    else (if bytes_eq (before_first (λ b. b == 32) text) (codes "before")
+    then cut_before (after_first (λ b. b == 32) text)
+    else (if bytes_eq (before_first (λ b. b == 32) text) (codes "through")
+    then cut_through (after_first (λ b. b == 32) text)
+    else (parse_date text >>= λ d. Ok (BeforeDate d))))
