@@ -1,7 +1,9 @@
+pub mod Balances
 pub mod Codes
 pub mod Cuts
 pub mod Dates
 pub mod Numbers
 pub mod Points
+pub mod Records
 pub mod Results
 pub mod ShortTexts
