@@ -1,5 +1,7 @@
 pub mod CodeLemmas
+pub mod DayLemmas
 pub mod NumberLemmas
+pub mod TextLemmas
 mod WorkedRows
 pub mod OrderLemmas
 pub mod OnceLemmas

@@ -1,12 +1,9 @@
 -- Worked rows of numbers, dates, points and cuts, computed from their definitions.
-use Rattle.std.proofs.Common.{◌≡◌, refl, codes, Ok, Err, pos, negsuc, ℕ}
+use Rattle.std.proofs.Common.{◌≡◌, refl, codes, Ok, Err, pos, negsuc}
 use Rattle.reg_base.specs.declared.num.NumFault.TheVariants.{NotANumber, TooManyDecimals, TooLarge}
 use Rattle.reg_base.specs.declared.date.DateFault.TheVariants.{NotADate, OutOfYears}
-use Rattle.reg_base.specs.declared.cut.Cut.TheVariants.{Now, BeforeDate, ThroughDate, BeforePoint, ThroughPoint}
 use Rattle.reg_base.specs.Numbers.{parse_num, digits_from, last_digits_from, decimals_from, units_of, sum_text, units_text, number_text}
-use Rattle.reg_base.specs.Dates.{parse_date, parse_long_date, number_at, day_spelt, second_spelt, date_of, date_text, day_text, second_text, day_of}
-use Rattle.reg_base.specs.Points.{parse_point, point_text, doc_number}
-use Rattle.reg_base.specs.Cuts.{parse_cut, cut_before, cut_through}
+use Rattle.reg_base.specs.Dates.{parse_date, parse_long_date, number_at, day_spelt, second_spelt, date_of, date_text, day_text, second_text, day_of, day_from_year, day_from_month}
 use Rattle.jiff_core.specs.Calendar.{day_count, days_of_years, days_of_months}
 
 four_decimals : parse_num (codes "1.2345") 3 ≡ Err TooManyDecimals
@@ -46,5 +43,5 @@ unfolding parse_date parse_long_date number_at day_spelt second_spelt date_of da
 a_second = refl
 
 its_text : date_text 758192400 ≡ codes "2024-01-10T09:00:00"
-unfolding date_text day_text second_text day_of
+unfolding date_text day_text second_text day_of day_from_year day_from_month
 its_text = refl

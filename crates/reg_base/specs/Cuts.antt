@@ -35,12 +35,21 @@ cut_through place =
     if has_byte 35 place then (parse_point place >>= λ p. Ok (ThroughPoint p))
     else (parse_date place >>= λ d. Ok (ThroughDate d))
 
--- the cut that the text spells: `now`, `before` or `through` with a place, or a date alone
+-- the cut of a word and, behind one space, a place
+unfoldable pub cut_by_word : List ℕ → List ℕ → Result Cut DateFault
+cut_by_word word place =
+    if bytes_eq word (codes "before") then cut_before place
+    else (if bytes_eq word (codes "through") then cut_through place else Err NotADate)
+
+-- the cut of one word: `now`, or a date alone, which means before it
+unfoldable pub cut_alone : List ℕ → Result Cut DateFault
+cut_alone text =
+    if bytes_eq text (codes "now") then Ok Now
+    else (parse_date text >>= λ d. Ok (BeforeDate d))
+
+-- the cut that the text spells
 unfoldable pub parse_cut : List ℕ → Result Cut DateFault
 parse_cut text =
-    if bytes_eq text (codes "now") then Ok Now
-    else (if bytes_eq (before_first (λ b. b == 32) text) (codes "before")
-    then cut_before (after_first (λ b. b == 32) text)
-    else (if bytes_eq (before_first (λ b. b == 32) text) (codes "through")
-    then cut_through (after_first (λ b. b == 32) text)
-    else (parse_date text >>= λ d. Ok (BeforeDate d))))
+    if has_byte 32 text
+    then cut_by_word (before_first (λ b. b == 32) text) (after_first (λ b. b == 32) text)
+    else cut_alone text

@@ -2,6 +2,7 @@ pub mod Balances
 pub mod Codes
 pub mod Cuts
 pub mod Dates
+pub mod Days
 pub mod Numbers
 pub mod Points
 pub mod Records

@@ -1,5 +1,5 @@
 -- Points: a date and a document number, their order, spelling and text.
-use Rattle.std.specs.Prelude.{ℕ, ◌^◌, ◌==◌, ◌&&◌, ◌||◌, not, nat_lt, if◌then◌else◌, List, ◌++◌, ◌∷◌, drop, take, length, slice_index, Result, Ok, Err}
+use Rattle.std.specs.Prelude.{ℕ, Bool, ◌^◌, ◌==◌, ◌&&◌, not, nat_lt, List, ◌++◌, ◌∷◌, drop, take, length, slice_index, Result, Ok}
 use Rattle.std.specs.List.{list_all}
 use Rattle.std.specs.Char.{is_ascii_digit}
 use Rattle.std.specs.Ordering.{nat_cmp, ordering_then}
@@ -15,11 +15,19 @@ use Rattle.reg_base.specs.Dates.{parse_long_date, date_text}
 abbrev pub point_cmp : Point → Point → Ordering
 point_cmp p q = ordering_then (nat_cmp p.date q.date) (nat_cmp p.doc q.doc)
 
--- the document number that the digits spell, below 2 ^ 32 and without leading zeros
+-- whether digits have a zero in front of others
+abbrev pub has_leading_zero : List ℕ → Bool
+has_leading_zero digits = nat_lt 1 (length digits) && (slice_index digits 0 == 48)
+
+-- whether a text is digits, one or more, without leading zeros
+unfoldable pub is_whole_number : List ℕ → Bool
+is_whole_number digits =
+    not (has_leading_zero digits) && nat_lt 0 (length digits) && list_all is_ascii_digit digits
+
+-- the document number that the digits spell, below 2 ^ 32
 unfoldable pub doc_number : List ℕ → Result ℕ DateFault
 doc_number digits = do
-  _ ← unless (nat_lt 0 (length digits) && list_all is_ascii_digit digits) NotADate
-  _ ← unless ((length digits == 1) || not (slice_index digits 0 == 48)) NotADate
+  _ ← unless (is_whole_number digits) NotADate
   _ ← unless (nat_lt (decimal_value digits) (2 ^ 32)) NotADate
   Ok (decimal_value digits)
 

@@ -1,10 +1,17 @@
-//! Dates to the second, from 2000 to 2099.
-ghost use Rattle.std.specs.Prelude.{◌≡◌, ◌<◌, SomeIff};
+//! Dates to the second, from 2000 to 2099: how they are read and printed.
+ghost use Rattle.std.specs.Prelude.{◌≡◌, ◌++◌, ◌<◌, ◌≤◌, SomeIff, IfOk, OnOk, OnErr, IsTrue, string_bytes, length};
+ghost use Rattle.reg_base.specs.Dates.{date_of, day_of, parse_long_date, parse_date, date_text};
 
+use crate::Memory;
+use crate::day::{Day, day_at, day_number, day_spelt, push_day, push_second, second_spelt};
+use std::alloc::Global;
 use std::marker::Model;
 
 /// How many seconds the years 2000 to 2099 have.
 pub const CENTURY_SECONDS: u32 = 3_155_760_000;
+
+/// The first day of 2000, counted as the calendar counts, from -9999-01-01.
+const FIRST_DAY: u32 = 4_382_544;
 
 /// A second of the years 2000 to 2099, seen as the seconds since 2000-01-01T00:00:00.
 #[derive(Clone, Copy, Debug, PartialEq, Eq, PartialOrd, Ord)]
@@ -22,6 +29,15 @@ impl Model for Date {
     ghost invariant = { λ d. d.seconds < 3_155_760_000 };
 
     ghost inverse = { λ n. record { seconds = n } };
+}
+
+/// Why a text is no date, point or cut.
+#[derive(Clone, Copy, Debug, PartialEq, Eq)]
+pub enum DateFault {
+    /// It does not spell a second of the calendar.
+    NotADate,
+    /// It spells one before 2000 or after 2099.
+    OutOfYears,
 }
 
 impl Date {
@@ -42,13 +58,77 @@ impl Date {
     {
         self.seconds
     }
+
+    /// Reads `YYYY-MM-DD`, which is the day's first second, or `YYYY-MM-DDThh:mm:ss`.
+    #[tactic(auto, unfolding(crate::specs::Dates::parse_date))]
+    pub fn parse(text: &str) -> Result<Date, DateFault>
+        ensures { result ≡ parse_date text.now }
+    {
+        let text = text.as_bytes();
+        if text.len() == 10 {
+            date_of(day_spelt(text)?, 0)
+        } else {
+            parse_long_date(text)
+        }
+    }
+
+    /// Appends the long form, `YYYY-MM-DDThh:mm:ss`.
+    pub fn print(self, alloc: Global, out: &mut Vec<u8>) -> Result<(), Memory>
+        ensures ok { OnOk result (out.new.items ≡ out.old.items ++ date_text self) }
+        ensures err { OnErr result (out.new.items ≡ out.old.items) }
+    {
+        let text = self.to_text(alloc)?;
+        out.extend_from_slice(text.as_bytes())?;
+        Ok(())
+    }
+
+    /// The long form, `YYYY-MM-DDThh:mm:ss`.
+    #[tactic(auto, unfolding(crate::specs::Dates::date_text))]
+    pub fn to_text(self, alloc: Global) -> Result<String, Memory>
+        ensures { IfOk result (λ text. string_bytes text ≡ date_text self) }
+    {
+        let mut text = String::new(alloc);
+        push_day(&mut text, day_of(self))?;
+        push_second(&mut text, self.seconds() % 86_400)?;
+        Ok(text)
+    }
 }
 
-/// Why a text is no date, point or cut.
-#[derive(Clone, Copy, Debug, PartialEq, Eq)]
-pub enum DateFault {
-    /// It does not spell a second of the calendar.
-    NotADate,
-    /// It spells one before 2000 or after 2099.
-    OutOfYears,
+/// Reads `YYYY-MM-DDThh:mm:ss`.
+#[tactic(auto, unfolding(crate::specs::Dates::parse_long_date))]
+pub(crate) fn parse_long_date(text: &[u8]) -> Result<Date, DateFault>
+    ensures { result ≡ parse_long_date text.now }
+{
+    if text.len() != 19 {
+        return Err(DateFault::NotADate);
+    }
+    let day = day_spelt(text)?;
+    let second = second_spelt(text)?;
+    date_of(day, second)
+}
+
+/// The date of a second of a day, where the calendar has the day.
+#[tactic(auto, unfolding(crate::specs::Dates::date_of))]
+fn date_of(day: Day, second: u32) -> Result<Date, DateFault>
+    requires year { day.year < 10000 }
+    requires month { day.month < 100 }
+    requires day { day.day < 100 }
+    requires second { second < 86400 }
+    ensures { result ≡ date_of day second }
+{
+    let number = day_number(day).ok_or(DateFault::NotADate)?;
+    if day.year < 2000 || day.year > 2099 {
+        return Err(DateFault::OutOfYears);
+    }
+    let days = number - FIRST_DAY;
+    Ok(Date {
+        seconds: 86_400 * days + second,
+    })
+}
+
+/// The day of the calendar that the date lies in.
+fn day_of(date: Date) -> Day
+    ensures { result ≡ day_of date }
+{
+    day_at(FIRST_DAY + date.seconds() / 86_400)
 }

@@ -16,6 +16,7 @@ mod code;
 mod comment;
 mod cut;
 mod date;
+mod day;
 mod list;
 mod memory;
 mod name;
@@ -24,6 +25,7 @@ mod point;
 mod records;
 mod scale;
 mod short_text;
+mod sums;
 mod text;
 mod value;
 
@@ -41,5 +43,6 @@ pub use records::{
     SumRow,
 };
 pub use scale::Scale;
+pub use sums::{print_sum, sum_string};
 pub use text::Text;
 pub use value::{Cell, Value};

@@ -113,7 +113,7 @@ fn decimals_from(text: &[u8], place: usize) -> Result<&[u8], NumFault>
 }
 
 /// What the digits spell behind those of `start`, or the largest `u64` where that is less.
-fn read_on(start: u64, digits: &[u8]) -> u64
+pub(crate) fn read_on(start: u64, digits: &[u8]) -> u64
     ensures { result ≡ min (read_on start digits.now) (2 ^ 64 - 1) }
 {
     let mut value = start;
