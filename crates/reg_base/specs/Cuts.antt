@@ -1,5 +1,5 @@
 -- Cuts: which points lie inside one, and how one is spelt.
-use Rattle.std.specs.Prelude.{ℕ, Bool, true, ◌==◌, nat_lt, nat_le, if◌then◌else◌, List, bytes_eq, codes, Result, Ok, Err}
+use Rattle.std.specs.Prelude.{ℕ, Bool, true, ◌==◌, nat_lt, nat_le, if◌then◌else◌, List, ◌++◌, bytes_eq, codes, Result, Ok, Err}
 use Rattle.std.specs.List.{list_any, before_first, after_first}
 use Rattle.std.specs.Ordering.{is_lt, is_le}
 use Rattle.reg_base.specs.declared.cut.Cut.{Cut}
@@ -8,8 +8,8 @@ use Rattle.reg_base.specs.declared.date.DateFault.{DateFault}
 use Rattle.reg_base.specs.declared.date.DateFault.TheVariants.{NotADate}
 use Rattle.reg_base.specs.declared.point.Point.{Point}
 use Rattle.reg_base.specs.Results.{◌>>=◌}
-use Rattle.reg_base.specs.Dates.{parse_date}
-use Rattle.reg_base.specs.Points.{point_cmp, parse_point}
+use Rattle.reg_base.specs.Dates.{parse_date, date_text}
+use Rattle.reg_base.specs.Points.{point_cmp, parse_point, point_text}
 
 -- the points below the cut's date or point, or at most there; now has every point
 abbrev pub inside : Cut → Point → Bool
@@ -53,3 +53,11 @@ parse_cut text =
     if has_byte 32 text
     then cut_by_word (before_first (λ b. b == 32) text) (after_first (λ b. b == 32) text)
     else cut_alone text
+
+-- the text of a cut, with dates in the long form
+unfoldable pub cut_text : Cut → List ℕ
+cut_text Now = codes "now"
+cut_text (BeforeDate d) = codes "before " ++ date_text d
+cut_text (ThroughDate d) = codes "through " ++ date_text d
+cut_text (BeforePoint p) = codes "before " ++ point_text p
+cut_text (ThroughPoint p) = codes "through " ++ point_text p

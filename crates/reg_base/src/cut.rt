@@ -1,8 +1,11 @@
 //! Cuts: which points a balance takes, and how one is read.
-ghost use Rattle.std.specs.Prelude.{◌≡◌};
-ghost use Rattle.reg_base.specs.Cuts.{inside, has_byte, parse_cut, cut_alone, cut_by_word, cut_before, cut_through};
+ghost use Rattle.std.specs.Prelude.{◌≡◌, ◌++◌, IfOk, string_bytes};
+ghost use Rattle.reg_base.specs.Dates.{date_text};
+ghost use Rattle.reg_base.specs.Points.{point_text};
+ghost use Rattle.reg_base.specs.Cuts.{inside, has_byte, parse_cut, cut_alone, cut_by_word, cut_before, cut_through, cut_text};
 
-use crate::{Date, DateFault, Point};
+use crate::{Date, DateFault, Memory, Point};
+use std::alloc::Global;
 
 /// The points up to a date or a point.
 #[derive(Clone, Copy, Debug, PartialEq, Eq)]
@@ -27,6 +30,38 @@ impl Cut {
             None => cut_alone(text),
         }
     }
+
+    /// The text of the cut, with dates in the long form.
+    #[tactic(auto, unfolding(crate::specs::Cuts::cut_text))]
+    pub fn to_text(self, alloc: Global) -> Result<String, Memory>
+        ensures { IfOk result (λ text. string_bytes text ≡ cut_text self) }
+    {
+        match self {
+            Cut::Now => Ok(String::from_str(alloc, "now")?),
+            Cut::BeforeDate(date) => date_behind(alloc, "before ", date),
+            Cut::ThroughDate(date) => date_behind(alloc, "through ", date),
+            Cut::BeforePoint(point) => point_behind(alloc, "before ", point),
+            Cut::ThroughPoint(point) => point_behind(alloc, "through ", point),
+        }
+    }
+}
+
+fn date_behind(alloc: Global, word: &str, date: Date) -> Result<String, Memory>
+    ensures { IfOk result (λ text. string_bytes text ≡ word.now ++ date_text date) }
+{
+    let date = date.to_text(alloc)?;
+    let mut text = String::from_str(alloc, word)?;
+    text.push_str(date.as_str())?;
+    Ok(text)
+}
+
+fn point_behind(alloc: Global, word: &str, point: Point) -> Result<String, Memory>
+    ensures { IfOk result (λ text. string_bytes text ≡ word.now ++ point_text point) }
+{
+    let point = point.to_text(alloc)?;
+    let mut text = String::from_str(alloc, word)?;
+    text.push_str(point.as_str())?;
+    Ok(text)
 }
 
 #[tactic(auto, unfolding(crate::specs::Cuts::cut_alone))]

@@ -29,6 +29,9 @@ mod sums;
 mod text;
 mod value;
 
+#[cfg(test)]
+mod tests;
+
 pub use code::Code;
 pub use comment::Comment;
 pub use cut::{Cut, inside};
