@@ -11,8 +11,8 @@ use Rattle.reg_base.specs.declared.records.Filter.{Filter}
 use Rattle.reg_base.specs.declared.records.SumRow.{SumRow}
 use Rattle.reg_base.specs.declared.cut.Cut.{Cut}
 use Rattle.reg_base.specs.Cuts.{inside}
-use Rattle.reg_base.specs.Records.{Booked, values_cmp, put, put_once, in_order, point_of, booked_cmp, booked_by, records_of, matches, chosen, within}
-use Rattle.reg_base.specs.Balances.{group_of, groups_of, share, total, row_of, is_shown, sum_rows, balance_of}
+use Rattle.reg_base.specs.Records.{Booked, values_cmp, put, put_once, in_order, point_of, booked_cmp, booked_by, records_of, matches}
+use Rattle.reg_base.specs.Balances.{group_of, groups_of, share, total, is_shown, sum_rows, balance_of}
 use Rattle.reg_base.proofs.OrderLemmas.{values_cmp_total, values_cmp_exact}
 use Rattle.reg_base.proofs.OnceLemmas.{put_once-put_once}
 

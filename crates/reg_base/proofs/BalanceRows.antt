@@ -1,6 +1,6 @@
 -- Worked rows of balances, computed from their definitions.
-use Rattle.std.proofs.Common.{◌≡◌, ℕ, ℤ, pos, negsuc, Bool, true, Option, Some, None, List, [], ◌∷◌, refl, codes}
-use Rattle.reg_base.specs.declared.value.Value.TheVariants.{Code, Lot}
+use Rattle.std.proofs.Common.{◌≡◌, ℕ, ℤ, pos, negsuc, true, Some, None, List, [], ◌∷◌, refl, codes}
+use Rattle.reg_base.specs.declared.value.Value.TheVariants.{Code}
 use Rattle.reg_base.specs.declared.records.Mark.{Mark}
 use Rattle.reg_base.specs.declared.records.Mark.TheVariants.{Receipt, Expense}
 use Rattle.reg_base.specs.declared.records.DocState.TheVariants.{Posted}

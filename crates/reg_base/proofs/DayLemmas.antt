@@ -76,11 +76,11 @@ month_passed y m d month civil one later =
     let passed = day_of_year_before y month (days_in_month y month) (m - 1) one (omega arith) (omega arith) in
     omega (arith, passed, day_count-day_of_year y m d civil.2.0, day_count-day_of_year y month 1 (omega arith))
 
-day_from_month-here : (more year month days : ℕ) → days < days_in_month (pos year) month → day_from_month (suc more) year month days ≡ record { year = year; month = month; day = days + 1 }
+pub day_from_month-here : (more year month days : ℕ) → days < days_in_month (pos year) month → day_from_month (suc more) year month days ≡ record { year = year; month = month; day = days + 1 }
 unfolding day_from_month
 day_from_month-here more year month days lt = grind (arith, nat_tests)
 
-day_from_month-later : (more year month days : ℕ) → days_in_month (pos year) month ≤ days → day_from_month (suc more) year month days ≡ day_from_month more year (month + 1) (days - days_in_month (pos year) month)
+pub day_from_month-later : (more year month days : ℕ) → days_in_month (pos year) month ≤ days → day_from_month (suc more) year month days ≡ day_from_month more year (month + 1) (days - days_in_month (pos year) month)
 unfolding day_from_month
 day_from_month-later more year month days ge = grind (arith, nat_tests)
 
@@ -116,11 +116,11 @@ day_from_month-is (suc more) year month days m d civil one low high count =
           ∙ day_from_month-is more year (month + 1) (days - days_in_month (pos year) month) m d civil (omega arith) (omega arith) (omega arith) (omega (arith, day_count-next_month (pos year) month one))
     ]
 
-day_from_year-here : (more year days : ℕ) → days < days_in_year (pos year) → day_from_year (suc more) year days ≡ day_from_month 11 year 1 days
+pub day_from_year-here : (more year days : ℕ) → days < days_in_year (pos year) → day_from_year (suc more) year days ≡ day_from_month 11 year 1 days
 unfolding day_from_year
 day_from_year-here more year days lt = grind (arith, nat_tests)
 
-day_from_year-later : (more year days : ℕ) → days_in_year (pos year) ≤ days → day_from_year (suc more) year days ≡ day_from_year more (year + 1) (days - days_in_year (pos year))
+pub day_from_year-later : (more year days : ℕ) → days_in_year (pos year) ≤ days → day_from_year (suc more) year days ≡ day_from_year more (year + 1) (days - days_in_year (pos year))
 unfolding day_from_year
 day_from_year-later more year days ge = grind (arith, nat_tests)
 

@@ -1,6 +1,9 @@
 pub mod CodeLemmas
+pub mod DateTextLemmas
 pub mod DayLemmas
+pub mod DigitLemmas
 pub mod NumberLemmas
+pub mod PointTextLemmas
 pub mod TextLemmas
 mod WorkedRows
 pub mod OrderLemmas

@@ -1,5 +1,5 @@
 -- Cuts: which points lie inside one, and how one is spelt.
-use Rattle.std.specs.Prelude.{ℕ, Bool, true, ◌==◌, nat_lt, nat_le, if◌then◌else◌, List, ◌++◌, bytes_eq, codes, Result, Ok, Err}
+use Rattle.std.specs.Prelude.{ℕ, Bool, true, ◌<◌, ◌==◌, nat_lt, nat_le, if◌then◌else◌, List, ◌++◌, bytes_eq, codes, Result, Ok, Err}
 use Rattle.std.specs.List.{list_any, before_first, after_first}
 use Rattle.std.specs.Ordering.{is_lt, is_le}
 use Rattle.reg_base.specs.declared.cut.Cut.{Cut}
@@ -9,7 +9,7 @@ use Rattle.reg_base.specs.declared.date.DateFault.TheVariants.{NotADate}
 use Rattle.reg_base.specs.declared.point.Point.{Point}
 use Rattle.reg_base.specs.Results.{◌>>=◌}
 use Rattle.reg_base.specs.Dates.{parse_date, date_text}
-use Rattle.reg_base.specs.Points.{point_cmp, parse_point, point_text}
+use Rattle.reg_base.specs.Points.{point_cmp, IsPoint, parse_point, point_text}
 
 -- the points below the cut's date or point, or at most there; now has every point
 abbrev pub inside : Cut → Point → Bool
@@ -18,6 +18,14 @@ inside (BeforeDate d) p = nat_lt p.date d
 inside (ThroughDate d) p = nat_le p.date d
 inside (BeforePoint q) p = is_lt (point_cmp p q)
 inside (ThroughPoint q) p = is_le (point_cmp p q)
+
+-- the cut's date or point is one
+abbrev pub IsCut : Cut → Type 0
+IsCut Now = Unit {0}
+IsCut (BeforeDate d) = d < 3_155_760_000
+IsCut (ThroughDate d) = d < 3_155_760_000
+IsCut (BeforePoint p) = IsPoint p
+IsCut (ThroughPoint p) = IsPoint p
 
 -- whether the text has this byte
 abbrev pub has_byte : ℕ → List ℕ → Bool

@@ -1,5 +1,5 @@
 -- Points: a date and a document number, their order, spelling and text.
-use Rattle.std.specs.Prelude.{ℕ, Bool, ◌^◌, ◌==◌, ◌&&◌, not, nat_lt, List, ◌++◌, ◌∷◌, drop, take, length, slice_index, Result, Ok}
+use Rattle.std.specs.Prelude.{ℕ, Bool, ◌^◌, ◌<◌, ◌==◌, ◌&&◌, not, nat_lt, List, ◌++◌, ◌∷◌, drop, take, length, slice_index, Result, Ok}
 use Rattle.std.specs.List.{list_all}
 use Rattle.std.specs.Char.{is_ascii_digit}
 use Rattle.std.specs.Ordering.{nat_cmp, ordering_then}
@@ -14,6 +14,11 @@ use Rattle.reg_base.specs.Dates.{parse_long_date, date_text}
 -- points are in order of date, and those of one date in order of document number
 abbrev pub point_cmp : Point → Point → Ordering
 point_cmp p q = ordering_then (nat_cmp p.date q.date) (nat_cmp p.doc q.doc)
+
+-- the point has a date of 2000 to 2099 and a document number below 2 ^ 32, as every point has
+pub record IsPoint (p : Point) : Type 0 where
+  pub in_century : p.date < 3_155_760_000
+  pub small : p.doc < 2 ^ 32
 
 -- whether digits have a zero in front of others
 abbrev pub has_leading_zero : List ℕ → Bool

@@ -1,10 +1,10 @@
 -- Records of registers: their points, which of them count, and which are asked for.
-use Rattle.std.specs.Prelude.{ℕ, ℤ, pos, neg_ℤ, Bool, true, false, ◌&&◌, ◌==◌, Option, Some, None, is_none, unwrap_or, if◌then◌else◌, List, [], ◌∷◌, map, filter, slice_get, nat_eq}
-use Rattle.std.specs.List.{list_any, flat_map, filter_map}
+use Rattle.std.specs.Prelude.{ℕ, ℤ, pos, neg_ℤ, Bool, true, false, ◌&&◌, Option, Some, None, is_none, unwrap_or, if◌then◌else◌, List, [], ◌∷◌, map, filter, slice_get}
+use Rattle.std.specs.List.{list_any, flat_map}
 use Rattle.std.specs.Ordering.{nat_cmp, ordering_then, match_ordering, is_eq}
 use Rattle.std.specs.Cmp.Lexicographic.{slice_cmp}
 use Rattle.std.specs.declared.cmp.Ordering.{Ordering}
-use Rattle.std.specs.declared.cmp.Ordering.TheVariants.{Less, Equal, Greater}
+use Rattle.std.specs.declared.cmp.Ordering.TheVariants.{Less, Greater}
 use Rattle.reg_base.specs.declared.point.Point.{Point}
 use Rattle.reg_base.specs.declared.value.Value.{Value}
 use Rattle.reg_base.specs.declared.value.Value.TheVariants.{Code, Lot}
@@ -13,8 +13,6 @@ use Rattle.reg_base.specs.declared.records.Mark.TheVariants.{Receipt, Expense, T
 use Rattle.reg_base.specs.declared.records.DocState.{DocState}
 use Rattle.reg_base.specs.declared.records.DocState.TheVariants.{Written, Posted, Marked}
 use Rattle.reg_base.specs.declared.records.Rec.{Rec}
-use Rattle.reg_base.specs.declared.records.Doc.{Doc}
-use Rattle.reg_base.specs.declared.records.Sets.{Sets}
 use Rattle.reg_base.specs.declared.records.Document.{Document}
 use Rattle.reg_base.specs.declared.records.Filter.{Filter}
 use Rattle.reg_base.specs.declared.cut.Cut.{Cut}

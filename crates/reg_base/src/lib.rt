@@ -26,11 +26,10 @@ mod records;
 mod scale;
 mod short_text;
 mod sums;
-mod text;
-mod value;
-
 #[cfg(test)]
 mod tests;
+mod text;
+mod value;
 
 pub use code::Code;
 pub use comment::Comment;

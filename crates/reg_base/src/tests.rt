@@ -41,9 +41,7 @@ fn a_sum_is_printed_with_the_decimals_of_its_scale(rt: HostRuntime) -> Result<()
 }
 
 #[test]
-fn a_date_is_read_to_the_second_and_printed_in_the_long_form(
-    rt: HostRuntime,
-) -> Result<(), Fail> {
+fn a_date_is_read_to_the_second_and_printed_in_the_long_form(rt: HostRuntime) -> Result<(), Fail> {
     for (text, wanted) in [
         ("2024-02-30", DateFault::NotADate),
         ("2024-01-10T24:00:00", DateFault::NotADate),
@@ -55,7 +53,10 @@ fn a_date_is_read_to_the_second_and_printed_in_the_long_form(
     }
     let morning = date("2024-01-10T09:00:00")?;
     assert_eq!(rt; morning.seconds(), 758_192_400);
-    assert_eq!(rt; morning.to_text(rt.alloc())?.as_str(), "2024-01-10T09:00:00");
+    assert_eq!(rt;
+        morning.to_text(rt.alloc())?.as_str(),
+        "2024-01-10T09:00:00"
+    );
     let mut out = Vec::new(rt.alloc());
     date("2096-02-29")?.print(rt.alloc(), &mut out)?;
     assert_eq!(rt; out.as_slice(), b"2096-02-29T00:00:00".as_slice());
@@ -64,7 +65,9 @@ fn a_date_is_read_to_the_second_and_printed_in_the_long_form(
 
 #[test]
 fn a_cut_takes_the_points_before_it_or_through_it(rt: HostRuntime) -> Result<(), Fail> {
-    let first = Point::parse("2024-01-10T09:00:00#1").ok().ok_or("a point was refused")?;
+    let first = Point::parse("2024-01-10T09:00:00#1")
+        .ok()
+        .ok_or("a point was refused")?;
     for (text, wanted) in [
         ("now", true),
         ("2024-01-10T09:00:00", false),
@@ -79,7 +82,10 @@ fn a_cut_takes_the_points_before_it_or_through_it(rt: HostRuntime) -> Result<(),
             assert_eq!(rt; cut.to_text(rt.alloc())?.as_str(), text);
         }
     }
-    assert_eq!(rt; Cut::parse("2024-01-10T09:00:00#1"), Err(DateFault::NotADate));
+    assert_eq!(rt;
+        Cut::parse("2024-01-10T09:00:00#1"),
+        Err(DateFault::NotADate)
+    );
     let mut out = Vec::new(rt.alloc());
     first.print(rt.alloc(), &mut out)?;
     assert_eq!(rt; out.as_slice(), b"2024-01-10T09:00:00#1".as_slice());
