@@ -18,7 +18,7 @@ pub struct Num {
 pub enum NumFault {
     /// No number can go on with the byte at this place, counted from 0; at the place behind the
     /// last byte, no number ends there.
-    NotANumber { place: u32 },
+    NotANumber { place: usize },
     /// It has more decimals than the scale.
     TooManyDecimals,
     /// Its units pass the largest number.
@@ -30,8 +30,7 @@ impl Num {
     /// fault of the whole text is answered: a wrong byte, then too many decimals, then the size.
     #[tactic(auto, unfolding(crate::specs::Numbers::parse_num))]
     pub fn parse(text: &str, scale: u8) -> Result<Num, NumFault>
-        requires short { length text.now < 2 ^ 32 }
-        requires in_range { scale ≤ 6 }
+        requires { scale ≤ 6 }
         ensures { result ≡ parse_num text.now scale }
     {
         let text = text.as_bytes();
@@ -62,8 +61,7 @@ fn digit_count(text: &[u8]) -> usize
 
 #[tactic(auto, unfolding(crate::specs::Numbers::digits_from))]
 fn digits_from(text: &[u8], place: usize) -> Result<&[u8], NumFault>
-    requires short { length text.now < 2 ^ 32 }
-    requires within { place ≤ length text.now }
+    requires { place ≤ length text.now }
     ensures value { MatchResult result (λ digits. digits_from text.now place ≡ Ok digits.now)
         (λ fault. digits_from text.now place ≡ Err fault) }
     ensures within { IfOk result (λ digits. place + length digits.now ≤ length text.now) }
@@ -71,32 +69,28 @@ fn digits_from(text: &[u8], place: usize) -> Result<&[u8], NumFault>
     let rest = &text[place..];
     let count = digit_count(rest);
     if count == 0 {
-        return Err(NumFault::NotANumber {
-            place: place as u32,
-        });
+        return Err(NumFault::NotANumber { place });
     }
     Ok(&rest[..count])
 }
 
 #[tactic(auto, unfolding(crate::specs::Numbers::last_digits_from))]
 fn last_digits_from(text: &[u8], place: usize) -> Result<&[u8], NumFault>
-    requires short { length text.now < 2 ^ 32 }
-    requires within { place ≤ length text.now }
+    requires { place ≤ length text.now }
     ensures { MatchResult result (λ digits. last_digits_from text.now place ≡ Ok digits.now)
         (λ fault. last_digits_from text.now place ≡ Err fault) }
 {
     let digits = digits_from(text, place)?;
     let end = place + digits.len();
     if end != text.len() {
-        return Err(NumFault::NotANumber { place: end as u32 });
+        return Err(NumFault::NotANumber { place: end });
     }
     Ok(digits)
 }
 
 #[tactic(auto, unfolding(crate::specs::Numbers::decimals_from))]
 fn decimals_from(text: &[u8], place: usize) -> Result<&[u8], NumFault>
-    requires short { length text.now < 2 ^ 32 }
-    requires within { place ≤ length text.now }
+    requires { place ≤ length text.now }
     ensures { MatchResult result (λ digits. decimals_from text.now place ≡ Ok digits.now)
         (λ fault. decimals_from text.now place ≡ Err fault) }
 {
@@ -106,9 +100,7 @@ fn decimals_from(text: &[u8], place: usize) -> Result<&[u8], NumFault>
     if text[place] == b'.' {
         last_digits_from(text, place + 1)
     } else {
-        Err(NumFault::NotANumber {
-            place: place as u32,
-        })
+        Err(NumFault::NotANumber { place })
     }
 }
 

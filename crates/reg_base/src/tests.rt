@@ -8,7 +8,7 @@ fn date(text: &str) -> Result<Date, Fail> {
 
 #[test]
 fn a_number_is_read_or_its_first_fault_is_told(rt: HostRuntime) {
-    let not_a_number = |place: u32| Err(NumFault::NotANumber { place });
+    let not_a_number = |place: usize| Err(NumFault::NotANumber { place });
     for (text, scale, wanted) in [
         ("-12.50", 2, Ok(Num { units: -1250 })),
         ("7", 3, Ok(Num { units: 7000 })),
