@@ -4,6 +4,7 @@ pub mod DayLemmas
 pub mod DigitLemmas
 pub mod NumberLemmas
 pub mod PointTextLemmas
+pub mod SumTextLemmas
 pub mod TextLemmas
 mod WorkedRows
 pub mod OrderLemmas

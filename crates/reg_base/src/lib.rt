@@ -22,6 +22,7 @@ mod memory;
 mod name;
 mod num;
 mod point;
+mod read_back;
 mod records;
 mod scale;
 mod short_text;
@@ -40,6 +41,7 @@ pub use memory::Memory;
 pub use name::Name;
 pub use num::{Num, NumFault};
 pub use point::Point;
+pub use read_back::{cuts_read_back, dates_read_back, numbers_read_back, points_read_back};
 pub use records::{
     Doc, DocRow, DocState, Document, Filter, Found, Item, Mark, Mode, Posting, Rec, Sets, Side,
     SumRow,

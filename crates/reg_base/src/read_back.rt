@@ -1,0 +1,29 @@
+//! Laws: what is printed is read back to the same value.
+ghost use Rattle.std.specs.Prelude.{◌≡◌, ℕ, ◌<◌, ◌≤◌, ℤ, unsigned_abs, Ok};
+ghost use Rattle.reg_base.specs.Numbers.{largest_units, parse_num, sum_text};
+ghost use Rattle.reg_base.specs.Dates.{parse_date, date_text};
+ghost use Rattle.reg_base.specs.declared.point.Point.{Point};
+ghost use Rattle.reg_base.specs.declared.cut.Cut.{Cut};
+ghost use Rattle.reg_base.specs.Points.{IsPoint, parse_point, point_text};
+ghost use Rattle.reg_base.specs.Cuts.{IsCut, parse_cut, cut_text};
+
+/// A law: the text of a number at a scale spells the number.
+pub fn numbers_read_back()
+    ensures { (units : ℤ) (scale : ℕ) → unsigned_abs units ≤ largest_units
+        → parse_num (sum_text units scale) scale ≡ Ok (record { units = units }) }
+{}
+
+/// A law: the text of a date spells the date.
+pub fn dates_read_back()
+    ensures { (date : ℕ) → date < 3_155_760_000 → parse_date (date_text date) ≡ Ok date }
+{}
+
+/// A law: the text of a point spells the point.
+pub fn points_read_back()
+    ensures { (point : Point) → IsPoint point → parse_point (point_text point) ≡ Ok point }
+{}
+
+/// A law: the text of a cut spells the cut.
+pub fn cuts_read_back()
+    ensures { (cut : Cut) → IsCut cut → parse_cut (cut_text cut) ≡ Ok cut }
+{}
