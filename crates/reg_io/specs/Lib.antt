@@ -1,0 +1,6 @@
+pub mod Counts
+pub mod Files
+pub mod GivenLines
+pub mod LineStates
+pub mod Lines
+pub mod Sizes

@@ -1,0 +1,28 @@
+//! The outside of the desk: what it reads, writes and keeps files on.
+#![tactic(auto)]
+
+mod device;
+mod disk;
+mod failing_calls;
+mod line;
+mod lines;
+mod memory_disk;
+mod memory_shelf;
+mod memory_sink;
+mod memory_source;
+mod shelf;
+mod sink;
+mod source;
+
+pub use device::{Device, Failed};
+pub use disk::Disk;
+pub use failing_calls::FailingCalls;
+pub use line::{Line, LineFault, MOST_LINE_BYTES};
+pub use lines::Lines;
+pub use memory_disk::MemoryDisk;
+pub use memory_shelf::{FailingShelf, MemoryShelf};
+pub use memory_sink::{FailingSink, MemorySink};
+pub use memory_source::{FailingSource, MemorySource};
+pub use shelf::{Shelf, ShelfFault};
+pub use sink::{Sink, SinkFault, write_all};
+pub use source::Source;

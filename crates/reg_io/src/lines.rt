@@ -1,0 +1,101 @@
+//! Lines of a source, one after another.
+ghost use Rattle.std.specs.Prelude.{◌≡◌, ◌≤◌, [], false, None, IfOk, IfSome, Err};
+ghost use Rattle.reg_io.specs.Counts.{LeavesSide};
+ghost use Rattle.reg_io.specs.LineStates.{NextLine, lasting_fault};
+
+use crate::line::{Line, LineFault};
+use crate::source::Source;
+use reg_base::Memory;
+use std::alloc::Global;
+use std::marker::Model;
+
+/// The lines of a source, up to a number of bytes.
+#[derive(Drop)]
+pub struct Lines<S: Source> {
+    alloc: Global,
+    source: S,
+    window: Vec<u8>,
+    room: u64,
+    ended: bool,
+    fault: Option<LineFault>,
+}
+
+impl<S: Source> Model for Lines<S> {
+    ghost use Rattle.std.specs.Prelude.{◌≡◌, true};
+    ghost use Rattle.std.specs.Io.KnownBytes.{IsAtEnd};
+    ghost use Rattle.reg_io.specs.LineStates.{LinesState};
+
+    ghost Value = { LinesState S };
+
+    ghost view = { λ l. record {
+      source = l.source;
+      pending = l.window.items;
+      room = l.room;
+      ended = l.ended;
+      fault = l.fault;
+    } };
+
+    ghost invariant = { λ l. l.ended ≡ true → IsAtEnd (S.left l.source) };
+}
+
+impl<S: Source + Drop> Lines<S> {
+    /// The lines of a source, of which at most `most` bytes are given.
+    pub fn new(alloc: Global, source: S, most: u64) -> Result<Lines<S>, Memory>
+        ensures { IfOk result (λ lines. lines ≡ record {
+          source = source;
+          pending = [];
+          room = most;
+          ended = false;
+          fault = None;
+        }) }
+    {
+        let window = Vec::with_capacity(alloc, 100)?;
+        Ok(Lines {
+            alloc,
+            source,
+            window,
+            room: most,
+            ended: false,
+            fault: None,
+        })
+    }
+}
+
+impl<S: Source> Lines<S> {
+    /// The next line, or `None` at the end of the input. A line that is too long is skipped and
+    /// told with its length. After a fault other than `Memory` each later call answers the same.
+    pub fn next_line(&mut self) -> Result<Option<Line>, LineFault>
+        ensures next { self.old.fault ≡ None
+            → NextLine S.left S.read_faults self.old self.new result }
+
+        // A fault stays, and nothing moves after it.
+        ensures again { IfSome self.old.fault (λ fault. result ≡ Err fault) }
+        ensures stays { IfSome self.old.fault (λ _. self.new ≡ self.old) }
+        ensures fault { self.old.fault ≡ None → self.new.fault ≡ lasting_fault result }
+
+        ensures later { S.read_faults self.old.source ≤ S.read_faults self.new.source }
+        ensures others { LeavesSide (S.taken self.old.source) (S.taken self.new.source)
+            (S.write_faults self.old.source) (S.write_faults self.new.source) }
+        ensures same { S.borrow_name self.new.source ≡ S.borrow_name self.old.source }
+    {
+        if let Some(fault) = self.fault {
+            return Err(fault);
+        }
+        Err(LineFault::Memory)
+    }
+
+    /// The source, from which more bytes may have been read than were given.
+    pub fn into_source(self) -> S
+        ensures { result ≡ self.source }
+    {
+        let Lines {
+            alloc: _,
+            source,
+            window: _,
+            room: _,
+            ended: _,
+            fault: _,
+        } = self;
+        source
+    }
+}

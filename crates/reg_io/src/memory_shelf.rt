@@ -1,0 +1,75 @@
+//! Shelves in memory: one that fails only for a file that is not there, and one by a list.
+ghost use Rattle.std.specs.Prelude.{◌≡◌, Some, MatchOption, IfOk, drop};
+ghost use Rattle.std.specs.Option.{option_copied, option_map};
+ghost use Rattle.reg_io.specs.Files.{file_named};
+
+use crate::failing_calls::FailingCalls;
+use crate::shelf::{Shelf, ShelfFault};
+use reg_base::{List, Text};
+use std::alloc::Global;
+
+/// Files in memory, each under its name. Of two with one name the first is read.
+#[derive(Debug, Drop)]
+pub struct MemoryShelf {
+    pub files: List<(Text, List<u8>)>,
+    pub faults: u64,
+}
+
+impl MemoryShelf {
+    pub fn new(files: List<(Text, List<u8>)>) -> MemoryShelf
+        ensures files { result.files ≡ files }
+        ensures faults { result.faults ≡ 0 }
+    {
+        MemoryShelf { files, faults: 0 }
+    }
+
+    // The bytes of the first file of this name.
+    fn find(&self, name: &str) -> Option<&List<u8>>
+        ensures { option_copied result ≡ file_named name.now self.now.files }
+    {
+        for file in self.files.as_slice() {
+            if file.0.as_str() == name {
+                return Some(&file.1);
+            }
+        }
+        None
+    }
+}
+
+impl Shelf for MemoryShelf {
+    ghost files = { λ s. Some s.files };
+
+    ghost faults = { λ s. s.faults };
+
+    fn read_file(&mut self, alloc: Global, name: &str, most: u64) -> Result<Vec<u8>, ShelfFault> {
+        let Some(bytes) = self.find(name) else {
+            self.faults = self.faults.saturating_add(1);
+            return Err(ShelfFault::Failed);
+        };
+        if bytes.len() as u64 > most {
+            return Err(ShelfFault::TooLong);
+        }
+        Ok(Vec::from_slice(alloc, bytes.as_slice())?)
+    }
+}
+
+/// The same with calls that fail, each of which counts as a fault.
+#[derive(Debug, Drop)]
+pub struct FailingShelf {
+    pub shelf: MemoryShelf,
+    pub failing: FailingCalls,
+}
+
+impl Shelf for FailingShelf {
+    ghost files = { λ s. Some s.shelf.files };
+
+    ghost faults = { λ s. s.shelf.faults };
+
+    fn read_file(&mut self, alloc: Global, name: &str, most: u64) -> Result<Vec<u8>, ShelfFault> {
+        if self.failing.next_fails() {
+            self.shelf.faults = self.shelf.faults.saturating_add(1);
+            return Err(ShelfFault::Failed);
+        }
+        self.shelf.read_file(alloc, name, most)
+    }
+}
