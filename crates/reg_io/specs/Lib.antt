@@ -4,3 +4,4 @@ pub mod GivenLines
 pub mod LineStates
 pub mod Lines
 pub mod Sizes
+pub mod Windows

@@ -13,6 +13,7 @@ mod memory_source;
 mod shelf;
 mod sink;
 mod source;
+mod window;
 
 pub use device::{Device, Failed};
 pub use disk::Disk;
