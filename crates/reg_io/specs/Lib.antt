@@ -1,4 +1,5 @@
 pub mod Counts
+pub mod Feeds
 pub mod Files
 pub mod GivenLines
 pub mod LineStates

@@ -4,6 +4,7 @@
 mod device;
 mod disk;
 mod failing_calls;
+mod feed;
 mod line;
 mod lines;
 mod memory_disk;

@@ -1,0 +1,68 @@
+-- The first line feed of bytes, found in a part of them.
+use Rattle.std.proofs.Common.{◌≡◌, ℕ, ◌+◌, ◌-◌, ◌<◌, ◌≤◌, ◌≢◌, min, List, ◌++◌, length, take, drop, get_or, slice_range, slice_index, refl, sym, ap, subst, ◌∙◌, arith, length-take, length-drop}
+use Rattle.std.proofs.Math.Seq.{take-add}
+use Rattle.std.proofs.lemmas.List.{take-take, take_all, get_or-take, get_or-drop}
+use Rattle.std.proofs.lemmas.List.Elements.{All-append}
+use Rattle.reg_io.specs.Lines.{line_feed}
+use Rattle.reg_io.specs.LineStates.{HasNoFeed}
+use Rattle.reg_io.specs.Feeds.{IsFirstFeed}
+
+pub HasNoFeed-append : (a b : List ℕ) → HasNoFeed a → HasNoFeed b → HasNoFeed (a ++ b)
+HasNoFeed-append a b p q = All-append (λ byte. byte ≢ line_feed) a b p q
+
+-- a front without line feed, and the next bytes
+pub HasNoFeed-range : (bytes : List ℕ) (i j : ℕ) → i ≤ j
+    → HasNoFeed (take i bytes) → HasNoFeed (slice_range bytes i j) → HasNoFeed (take j bytes)
+HasNoFeed-range bytes i j le p q =
+    let e : take j bytes ≡ take i bytes ++ take (j - i) (drop i bytes) =
+      ap (λ n. take n bytes) (omega arith) ∙ take-add i (j - i) bytes in
+    rw e (HasNoFeed-append _ _ p q)
+
+-- the place in a range, counted from the front of all bytes
+pub IsFirstFeed-range : (bytes : List ℕ) (i j place : ℕ) → i ≤ j → j ≤ length bytes
+    → HasNoFeed (take i bytes) → IsFirstFeed (slice_range bytes i j) place
+    → IsFirstFeed bytes (i + place) × (i + place < j)
+IsFirstFeed-range bytes i j place le bound p found =
+    let short : place < j - i = omega (arith, simp length-take at found.within) in
+    let same : take place (take (j - i) (drop i bytes)) ≡ take place (drop i bytes) =
+      take-take place (j - i) (drop i bytes) (omega arith) in
+    (record {
+      within = omega arith;
+      before = rw take-add (HasNoFeed-append _ _ p (rw same at found.before));
+      here = sym (get_or-drop i bytes place 0) ∙ sym (get_or-take (j - i) (drop i bytes) place 0 short)
+        ∙ found.here
+    }, omega arith)
+
+-- bytes that have no line feed up to a limit that is their end
+pub HasNoFeed-whole : (bytes : List ℕ) (limit : ℕ) → length bytes ≤ limit
+    → HasNoFeed (take limit bytes) → HasNoFeed bytes
+HasNoFeed-whole bytes limit le h = rw take_all at h
+
+-- what a look behind the scanned bytes, up to the room, tells of the whole window
+module _ (bytes window : List ℕ) (room scanned limit : ℕ) (same : bytes ≡ window)
+    (upto : limit ≡ min (length bytes) room) (within : scanned ≤ length window)
+    (in_room : scanned ≤ room) (front : HasNoFeed (take scanned window)) where
+  pub found_line : (place : ℕ) → IsFirstFeed (slice_range bytes scanned limit) place
+      → IsFirstFeed window (scanned + place) × (scanned + place < room)
+  found_line place found =
+      let len = ap length same in
+      let there = IsFirstFeed-range window scanned limit place (omega arith) (omega arith) front
+        (rw same at found) in
+      (there.0, omega (arith, there.1))
+
+  none_found : HasNoFeed (slice_range bytes scanned limit) → HasNoFeed (take limit window)
+  none_found none =
+      let len = ap length same in
+      HasNoFeed-range window scanned limit (omega arith) front (rw same at none)
+
+  pub found_past : HasNoFeed (slice_range bytes scanned limit) → room < length bytes
+      → (room < length window) × HasNoFeed (take room window)
+  found_past none past =
+      let len = ap length same in let e : limit ≡ room = omega arith in
+      (omega arith, rw e at (none_found none))
+
+  pub found_part : HasNoFeed (slice_range bytes scanned limit) → length bytes ≤ room
+      → HasNoFeed window × (length window ≤ room)
+  found_part none short =
+      let len = ap length same in
+      (HasNoFeed-whole window limit (omega arith) (none_found none), omega arith)
