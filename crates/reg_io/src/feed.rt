@@ -2,7 +2,7 @@
 ghost use Rattle.std.specs.Prelude.{◌≡◌, ◌+◌, ◌<◌, ◌≤◌, ◌⊎◌, ◌↔◌, false, true, length, take, MatchOption, OnOk, OnErr, IfOk};
 ghost use Rattle.reg_io.specs.Counts.{Rose};
 ghost use Rattle.reg_io.specs.LineStates.{HasNoFeed, NextLine};
-ghost use Rattle.reg_io.specs.Feeds.{IsFirstFeed, IsPart, IsSound, LeavesRest, ReadsMore, ReadsOn, Shows, state_of};
+ghost use Rattle.reg_io.specs.Feeds.{IsFirstFeed, IsPart, IsSound, LeavesRest, ReadsMore, ReadsOn, Shows, TakesRaw, state_of};
 
 use crate::device::Failed;
 use crate::line::{Line, LineFault, MOST_LINE_BYTES};
@@ -43,7 +43,8 @@ impl<S: Source> Feed<S> {
         ensures bound { length self.new.window ≤ self.new.room + 1 }
         ensures goes { OnOk result ((self.new.ended ≡ true)
             ⊎ (length self.old.window < length self.new.window)) }
-        ensures err { OnErr result (length self.new.window ≡ length self.old.window) }
+        ensures err { OnErr result ((length self.new.window ≡ length self.old.window)
+            × (self.new.ended ≡ false)) }
         ensures cause { OnErr result (Rose (S.read_faults self.old.source)
             (S.read_faults self.new.source)) }
         ensures rest { LeavesRest S.taken S.read_faults S.write_faults S.borrow_name
@@ -79,6 +80,63 @@ impl<S: Source> Feed<S> {
         } else {
             Look::Open
         }
+    }
+
+    // Reads until the window shows the next line, or a part that is too long for one.
+    fn find_line(&mut self) -> Result<Look, Failed>
+        requires sound { IsSound S.left self.old }
+        ensures on { ReadsOn S.left self.old self.new }
+        ensures shows { IfOk result (Shows self.new) }
+        ensures long { result ≡ Ok Look.Open → MOST_LINE_BYTES < length self.new.window }
+        ensures err { OnErr result (Shows self.new Look.Open) }
+        ensures cause { OnErr result (Rose (S.read_faults self.old.source)
+            (S.read_faults self.new.source)) }
+        ensures rest { LeavesRest S.taken S.read_faults S.write_faults S.borrow_name
+            self.old.source self.new.source }
+    {
+        let mut scanned = 0;
+        'reads: loop {
+            match self.look(scanned) {
+                Look::Open => {}
+                look => return Ok(look),
+            }
+            scanned = self.window.as_slice().len();
+            if scanned as u64 > MOST_LINE_BYTES {
+                return Ok(Look::Open);
+            }
+            if self.read_more().is_err() {
+                return Err(Failed);
+            }
+        }
+    }
+
+    // Takes the line whose line feed stands behind so many bytes.
+    fn take_whole(&mut self, len: usize)
+        requires { Shows self.old (Look.Line len) }
+        ensures taken { TakesRaw S.left self.old self.new
+            (record { content = take len self.old.window; ended = true }) }
+        ensures source { self.new.source ≡ self.old.source }
+        ensures ended { self.new.ended ≡ self.old.ended }
+    {
+        let _bound = self.window.as_slice();
+        self.window.drop_front(len + 1);
+        self.room -= len as u64 + 1;
+    }
+
+    // Takes the part that is the last line, and tells how many bytes it has.
+    fn take_rest(&mut self) -> usize
+        requires sound { IsSound S.left self.old }
+        requires shows { Shows self.old Look.Ended }
+        ensures taken { TakesRaw S.left self.old self.new
+            (record { content = self.old.window; ended = false }) }
+        ensures len { result ≡ length self.old.window }
+        ensures source { self.new.source ≡ self.old.source }
+        ensures ended { self.new.ended ≡ self.old.ended }
+    {
+        let len = self.window.as_slice().len();
+        self.window.drop_front(len);
+        self.room -= len as u64;
+        len
     }
 }
 
