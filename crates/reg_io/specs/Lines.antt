@@ -1,5 +1,5 @@
 -- The lines of bytes: each line feed ends one, and a last line may lack it.
-use Rattle.std.specs.Prelude.{ℕ, ◌==◌, Bool, true, false, ◌&&◌, List, [], ◌∷◌, ◌++◌, length, map, filter, nat_le, if◌then◌else◌}
+use Rattle.std.specs.Prelude.{ℕ, ◌-◌, ◌==◌, Bool, true, false, List, [], ◌∷◌, ◌++◌, length, take, slice_index, map, filter, nat_le, if◌then◌else◌}
 use Rattle.reg_io.specs.declared.line.Line.{Line}
 use Rattle.reg_io.specs.declared.line.Line.TheVariants.{Text, TooLong}
 use Rattle.reg_io.specs.declared.line.TheConstants.{MOST_LINE_BYTES}
@@ -33,11 +33,12 @@ raw_lines (byte ∷ bytes) =
     then (record { content = []; ended = true }) ∷ raw_lines bytes
     else onto byte (raw_lines bytes)
 
--- bytes without a carriage return at their end
+-- bytes without one carriage return at their end
 abbrev pub without_return : List ℕ → List ℕ
-without_return [] = []
-without_return (byte ∷ []) = if byte == carriage_return then [] else byte ∷ []
-without_return (byte ∷ next ∷ bytes) = byte ∷ without_return (next ∷ bytes)
+without_return bytes =
+    if slice_index bytes (length bytes - 1) == carriage_return
+    then take (length bytes - 1) bytes
+    else bytes
 
 -- the text of a line: a carriage return goes with the line feed, and stays where there is none
 abbrev pub text_of : RawLine → List ℕ

@@ -1,12 +1,13 @@
 //! A source with the window in front of it, where the next line is looked for.
-ghost use Rattle.std.specs.Prelude.{◌≡◌, ◌+◌, ◌<◌, ◌≤◌, ◌⊎◌, ◌↔◌, false, true, length, take, MatchOption, OnOk, OnErr, IfOk};
+ghost use Rattle.std.specs.Prelude.{◌≡◌, ◌≢◌, ◌+◌, ◌-◌, ◌^◌, ◌<◌, ◌≤◌, ◌⊎◌, [], false, true, length, take, MatchOption, Ok, OnOk, OnErr, IfOk};
 ghost use Rattle.reg_io.specs.Counts.{Rose};
 ghost use Rattle.reg_io.specs.LineStates.{HasNoFeed, NextLine};
-ghost use Rattle.reg_io.specs.Feeds.{IsFirstFeed, IsPart, IsSound, LeavesRest, ReadsMore, ReadsOn, Shows, TakesRaw, state_of};
+ghost use Rattle.reg_io.specs.Feeds.{EndsSkip, IsFirstFeed, IsPart, IsSound, LeavesRest, ReadsMore, ReadsOn, Shows, TakesRaw, state_of};
 
 use crate::device::Failed;
 use crate::line::{Line, LineFault, MOST_LINE_BYTES};
 use crate::source::Source;
+use crate::told_line::told_line;
 use crate::window::{WINDOW_BYTES, Window};
 use std::alloc::Global;
 
@@ -137,6 +138,130 @@ impl<S: Source> Feed<S> {
         self.window.drop_front(len);
         self.room -= len as u64;
         len
+    }
+
+    // Gives the line whose line feed stands behind so many bytes.
+    fn give_whole(&mut self, alloc: Global, len: usize) -> Result<Option<Line>, LineFault>
+        requires { Shows self.old (Look.Line len) }
+        ensures next { NextLine S.left S.read_faults (state_of self.old) (state_of self.new) result }
+        ensures source { self.new.source ≡ self.old.source }
+        ensures ended { self.new.ended ≡ self.old.ended }
+    {
+        let line = told_line(alloc, &self.window.as_slice()[..len], true)?;
+        self.take_whole(len);
+        Ok(Some(line))
+    }
+
+    // Gives the part that is the last line, or tells the end where it is empty.
+    fn give_rest(&mut self, alloc: Global) -> Result<Option<Line>, LineFault>
+        requires sound { IsSound S.left self.old }
+        requires shows { Shows self.old Look.Ended }
+        ensures next { NextLine S.left S.read_faults (state_of self.old) (state_of self.new) result }
+        ensures source { self.new.source ≡ self.old.source }
+        ensures ended { self.new.ended ≡ self.old.ended }
+    {
+        let content = self.window.as_slice();
+        if content.is_empty() {
+            return Ok(None);
+        }
+        let line = told_line(alloc, content, false)?;
+        self.take_rest();
+        Ok(Some(line))
+    }
+
+    // Passes over all bytes of the window.
+    fn pass_all(&mut self)
+        requires { length self.old.window ≤ self.old.room }
+        ensures window { self.new.window ≡ [] }
+        ensures room { self.old.room ≡ length self.old.window + self.new.room }
+        ensures source { self.new.source ≡ self.old.source }
+        ensures ended { self.new.ended ≡ self.old.ended }
+    {
+        let len = self.window.as_slice().len();
+        self.window.drop_front(len);
+        self.room -= len as u64;
+    }
+
+    // The end of a line of which so many bytes were skipped.
+    fn end_skip(&mut self, skipped: u64, look: Look) -> Result<Option<Line>, LineFault>
+        requires sound { IsSound S.left self.old }
+        requires shows { Shows self.old look }
+        requires settled { look ≢ Look.Open }
+        requires fits { skipped + self.old.room < 2 ^ 64 }
+        ensures ends { EndsSkip S.left self.old self.new skipped result }
+        ensures source { self.new.source ≡ self.old.source }
+        ensures ended { self.new.ended ≡ self.old.ended }
+    {
+        let len = match look {
+            Look::Line { len } => {
+                self.take_whole(len);
+                return Ok(Some(Line::TooLong {
+                    bytes: skipped + len as u64,
+                }));
+            }
+            Look::Past => return Err(LineFault::InputTooLong),
+            Look::Ended => self.take_rest(),
+            Look::Open => unreachable!(),
+        };
+        Ok(Some(Line::TooLong {
+            bytes: skipped + len as u64,
+        }))
+    }
+
+    // Skips a line that is too long, and tells its length.
+    fn skip_line(&mut self) -> Result<Option<Line>, LineFault>
+        requires sound { IsSound S.left self.old }
+        requires shows { Shows self.old Look.Open }
+        requires long { MOST_LINE_BYTES < length self.old.window }
+        ensures next { NextLine S.left S.read_faults (state_of self.old) (state_of self.new) result }
+        ensures sound { IsSound S.left self.new }
+        ensures rest { LeavesRest S.taken S.read_faults S.write_faults S.borrow_name
+            self.old.source self.new.source }
+    {
+        let start = self.room;
+        'parts: loop {
+            self.pass_all();
+            match self.read_more() {
+                Ok(()) => {}
+                Err(Failed) => return Err(LineFault::Read),
+            }
+            match self.look(0) {
+                Look::Open => {}
+                look => return self.end_skip(start - self.room, look),
+            }
+        }
+    }
+
+    // The line that the window shows, or why there is none.
+    fn answer(&mut self, alloc: Global, look: Look) -> Result<Option<Line>, LineFault>
+        requires sound { IsSound S.left self.old }
+        requires shows { Shows self.old look }
+        requires long { look ≡ Look.Open → MOST_LINE_BYTES < length self.old.window }
+        ensures next { NextLine S.left S.read_faults (state_of self.old) (state_of self.new) result }
+        ensures sound { IsSound S.left self.new }
+        ensures rest { LeavesRest S.taken S.read_faults S.write_faults S.borrow_name
+            self.old.source self.new.source }
+    {
+        match look {
+            Look::Line { len } => self.give_whole(alloc, len),
+            Look::Past => Err(LineFault::InputTooLong),
+            Look::Ended => self.give_rest(alloc),
+            Look::Open => self.skip_line(),
+        }
+    }
+
+    /// The next line, or why there is none.
+    pub(crate) fn next_line(&mut self, alloc: Global) -> Result<Option<Line>, LineFault>
+        requires sound { IsSound S.left self.old }
+        ensures next { NextLine S.left S.read_faults (state_of self.old) (state_of self.new) result }
+        ensures sound { IsSound S.left self.new }
+        ensures rest { LeavesRest S.taken S.read_faults S.write_faults S.borrow_name
+            self.old.source self.new.source }
+    {
+        match self.find_line() {
+            Ok(look) => self.answer(alloc, look),
+            Err(Failed) => Err(LineFault::Read),
+        }
     }
 }
 

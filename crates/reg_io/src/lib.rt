@@ -14,6 +14,7 @@ mod memory_source;
 mod shelf;
 mod sink;
 mod source;
+mod told_line;
 mod window;
 
 pub use device::{Device, Failed};

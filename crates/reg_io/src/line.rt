@@ -1,6 +1,9 @@
 //! A line of input, and why there is none.
-use reg_base::{List, Memory};
+ghost use Rattle.std.specs.Prelude.{◌≡◌, IfOk};
+ghost use Rattle.reg_io.specs.declared.line.LineFault.TheVariants.{Memory};
+
 use std::alloc::AllocError;
+use reg_base::List;
 
 /// How many bytes a line may have without its line feed.
 pub const MOST_LINE_BYTES: u64 = 1_048_576;
@@ -23,4 +26,12 @@ pub enum LineFault {
     InputTooLong,
     /// Memory was refused.
     Memory,
+}
+
+impl From<AllocError> for LineFault {
+    ghost from_gives = { λ _ e. e ≡ Memory };
+
+    fn from(_refused: AllocError) -> LineFault {
+        LineFault::Memory
+    }
 }
