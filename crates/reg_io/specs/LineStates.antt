@@ -88,9 +88,13 @@ NextLine left faults old new (Err InputTooLong) =
     PassesRoom (ahead left old) (left new.source) old.room
 NextLine left faults old new (Err Memory) = KeepsAhead left old new
 
--- the fault that stays after an answer: want of memory does not
+-- the fault that stays: want of memory does not
+abbrev pub lasting_of : LineFault → Option LineFault
+lasting_of Read = Some Read
+lasting_of InputTooLong = Some InputTooLong
+lasting_of Memory = None
+
+-- the fault that stays after an answer
 abbrev pub lasting_fault : Result (Option Line) LineFault → Option LineFault
 lasting_fault (Ok line) = None
-lasting_fault (Err Read) = Some Read
-lasting_fault (Err InputTooLong) = Some InputTooLong
-lasting_fault (Err Memory) = None
+lasting_fault (Err fault) = lasting_of fault

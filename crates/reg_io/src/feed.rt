@@ -34,6 +34,21 @@ pub(crate) enum Look {
     Open,
 }
 
+impl<S> Feed<S> {
+    /// The source alone.
+    pub(crate) fn into_source(self) -> S
+        ensures { result ≡ self.source }
+    {
+        let Feed {
+            source,
+            window: _,
+            room: _,
+            ended: _,
+        } = self;
+        source
+    }
+}
+
 impl<S: Source> Feed<S> {
     // Reads once: at most one byte more than may be given, so that a longer input is seen.
     fn read_more(&mut self) -> Result<(), Failed>

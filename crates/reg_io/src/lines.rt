@@ -1,10 +1,12 @@
 //! Lines of a source, one after another.
 ghost use Rattle.std.specs.Prelude.{◌≡◌, ◌≤◌, [], false, None, IfOk, IfSome, Err};
 ghost use Rattle.reg_io.specs.Counts.{LeavesSide};
-ghost use Rattle.reg_io.specs.LineStates.{NextLine, lasting_fault};
+ghost use Rattle.reg_io.specs.LineStates.{NextLine, lasting_fault, lasting_of};
 
+use crate::feed::Feed;
 use crate::line::{Line, LineFault};
 use crate::source::Source;
+use crate::window::Window;
 use reg_base::Memory;
 use std::alloc::Global;
 use std::marker::Model;
@@ -13,10 +15,7 @@ use std::marker::Model;
 #[derive(Drop)]
 pub struct Lines<S: Source> {
     alloc: Global,
-    source: S,
-    window: Vec<u8>,
-    room: u64,
-    ended: bool,
+    feed: Feed<S>,
     fault: Option<LineFault>,
 }
 
@@ -28,14 +27,14 @@ impl<S: Source> Model for Lines<S> {
     ghost Value = { LinesState S };
 
     ghost view = { λ l. record {
-      source = l.source;
-      pending = l.window.items;
-      room = l.room;
-      ended = l.ended;
+      source = l.feed.source;
+      pending = l.feed.window;
+      room = l.feed.room;
+      ended = l.feed.ended;
       fault = l.fault;
     } };
 
-    ghost invariant = { λ l. l.ended ≡ true → IsAtEnd (S.left l.source) };
+    ghost invariant = { λ l. l.feed.ended ≡ true → IsAtEnd (S.left l.feed.source) };
 }
 
 impl<S: Source + Drop> Lines<S> {
@@ -49,13 +48,16 @@ impl<S: Source + Drop> Lines<S> {
           fault = None;
         }) }
     {
-        let window = Vec::with_capacity(alloc, 100)?;
-        Ok(Lines {
-            alloc,
+        let window = Window::new(alloc)?;
+        let feed = Feed {
             source,
             window,
             room: most,
             ended: false,
+        };
+        Ok(Lines {
+            alloc,
+            feed,
             fault: None,
         })
     }
@@ -81,7 +83,13 @@ impl<S: Source> Lines<S> {
         if let Some(fault) = self.fault {
             return Err(fault);
         }
-        Err(LineFault::Memory)
+        match self.feed.next_line(self.alloc) {
+            Ok(line) => Ok(line),
+            Err(fault) => {
+                self.fault = lasting(fault);
+                Err(fault)
+            }
+        }
     }
 
     /// The source, from which more bytes may have been read than were given.
@@ -90,12 +98,20 @@ impl<S: Source> Lines<S> {
     {
         let Lines {
             alloc: _,
-            source,
-            window: _,
-            room: _,
-            ended: _,
+            feed,
             fault: _,
         } = self;
-        source
+        feed.into_source()
+    }
+}
+
+// The fault that each later call answers, where one does.
+fn lasting(fault: LineFault) -> Option<LineFault>
+    ensures { result ≡ lasting_of fault }
+{
+    match fault {
+        LineFault::Read => Some(LineFault::Read),
+        LineFault::InputTooLong => Some(LineFault::InputTooLong),
+        LineFault::Memory => None,
     }
 }
