@@ -1,0 +1,48 @@
+//! The files of a folder.
+ghost use Rattle.std.specs.Prelude.{◌≡◌, ◌≤◌, IfOk, vec_len};
+
+use crate::shelf::{Shelf, ShelfFault};
+use std::alloc::Global;
+use std::fs;
+use std::io;
+use std::io::Read;
+use std::rt::Files;
+
+/// The files that a runtime reaches, each by its path. What they hold is not told.
+#[derive(Drop)]
+pub struct Folder<'a, R> {
+    files: &'a R,
+    faults: u64,
+}
+
+impl<'a, R: Files> Folder<'a, R> {
+    pub fn new(files: &'a R) -> Folder<'a, R>
+        ensures { result.faults ≡ 0 }
+    {
+        Folder { files, faults: 0 }
+    }
+}
+
+impl<R: Files> Shelf for Folder<'_, R> {
+    ghost faults = { λ f. f.faults };
+
+    fn read_file(&mut self, alloc: Global, name: &str, most: u64) -> Result<Vec<u8>, ShelfFault> {
+        match read_up_to(self.files, alloc, name, most) {
+            Ok(bytes) if bytes.len() as u64 <= most => Ok(bytes),
+            Ok(_) => Err(ShelfFault::TooLong),
+            Err(e) if e.kind() == io::ErrorKind::OutOfMemory => Err(ShelfFault::Memory),
+            Err(_) => {
+                self.faults = self.faults.saturating_add(1);
+                Err(ShelfFault::Failed)
+            }
+        }
+    }
+}
+
+// The bytes of a file, and of a longer one its first `most` and one more.
+fn read_up_to<R: Files>(files: &R, alloc: Global, name: &str, most: u64) -> io::Result<Vec<u8>> {
+    let file = fs::open(files, name)?;
+    let mut bytes = Vec::new(alloc);
+    file.take(most.saturating_add(1)).read_to_end(&mut bytes)?;
+    Ok(bytes)
+}
