@@ -1,0 +1,14 @@
+-- The text of a fault: its number, its name and its fields, a space before each.
+use Rattle.std.specs.Prelude.{ℕ, codes, List, ◌++◌}
+use Rattle.std.specs.Fmt.{decimal}
+use Rattle.cfg_model.specs.declared.fault.CfgFault.{CfgFault}
+use Rattle.cfg_model.specs.declared.fault.CfgFault.TheVariants.{NotToml, Field, Twice, Unknown, Count, Memory}
+
+-- as `2 Field register.stock.kind`; want of memory is told elsewhere and has the number 0
+unfoldable pub fault_text : CfgFault → List ℕ
+fault_text NotToml = codes "1 NotToml"
+fault_text (Field path) = codes "2 Field " ++ path
+fault_text (Twice name) = codes "3 Twice " ++ name
+fault_text (Unknown name) = codes "4 Unknown " ++ name
+fault_text (Count what number) = codes "5 Count " ++ (what ++ (codes " " ++ decimal number))
+fault_text Memory = codes "0 Memory"

@@ -1,0 +1,6 @@
+pub mod Words
+pub mod Elements
+pub mod Walk
+pub mod Reading
+pub mod Places
+pub mod FaultTexts

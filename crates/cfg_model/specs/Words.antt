@@ -1,0 +1,45 @@
+-- The keys of a configuration file, its paths, and the names that are taken.
+use Rattle.std.specs.Prelude.{ℕ, codes, Bool, List, [], ◌∷◌, ◌++◌, Option, Some, None, if◌then◌else◌}
+use Rattle.std.specs.List.{list_any}
+use Rattle.std.specs.Str.{bytes_eq}
+use Rattle.toml.specs.Data.{Members, no_members, member}
+
+-- the text is one of these
+abbrev pub is_one_of : List (List ℕ) → List ℕ → Bool
+is_one_of words text = list_any (λ word. bytes_eq word text) words
+
+-- the least key in byte order that is not known: members stand in that order
+abbrev pub first_unknown : List (List ℕ) → Members → Option (List ℕ)
+first_unknown known no_members = None
+first_unknown known (member key d ms) =
+    if is_one_of known key then first_unknown known ms else Some key
+
+-- the first text that stands among those before it, given those seen already
+abbrev pub first_repeated : List (List ℕ) → List (List ℕ) → Option (List ℕ)
+first_repeated seen [] = None
+first_repeated seen (text ∷ texts) =
+    if is_one_of seen text then Some text else first_repeated (seen ++ text ∷ []) texts
+
+-- where an entry stands, as `register.stock`
+abbrev pub entry_path : List ℕ → List ℕ → List ℕ
+entry_path group name = group ++ (codes "." ++ name)
+
+-- where a key of an entry stands, as `register.stock.kind`
+abbrev pub key_path : List ℕ → List ℕ → List ℕ → List ℕ
+key_path group name key = group ++ (codes "." ++ (name ++ (codes "." ++ key)))
+
+-- the names of spaces and of one clerk that no entry may take
+abbrev pub reserved_names : List (List ℕ)
+reserved_names = codes "doc" ∷ codes "key" ∷ codes "closed" ∷ codes "batch" ∷ codes "documents" ∷ []
+
+-- the keys of the top level
+abbrev pub group_keys : List (List ℕ)
+group_keys = codes "register" ∷ codes "clerk" ∷ []
+
+-- the keys of a register
+abbrev pub register_keys : List (List ℕ)
+register_keys = codes "kind" ∷ codes "dimensions" ∷ codes "resources" ∷ []
+
+-- the keys of a clerk
+abbrev pub clerk_keys : List (List ℕ)
+clerk_keys = codes "rights" ∷ []

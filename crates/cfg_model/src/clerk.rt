@@ -1,0 +1,99 @@
+//! A clerk: who may ask for what.
+ghost use Rattle.std.specs.Prelude.{◌≡◌, codes};
+ghost use Rattle.toml.specs.View.{view, table_view};
+ghost use Rattle.reg_base.specs.Results.{Gives};
+ghost use Rattle.cfg_model.specs.declared.fault.CfgFault.TheVariants.{Memory};
+ghost use Rattle.cfg_model.specs.Elements.{right_of, right_word};
+ghost use Rattle.cfg_model.specs.Reading.{read_clerk, read_rights};
+
+use crate::CfgFault;
+use crate::element::{Element, distinct};
+use crate::walk::{Entry, RESERVED_NAMES, entry_keys};
+use reg_base::{List, Name};
+use std::alloc::Global;
+use toml::Value;
+
+/// A clerk with the rights that were given.
+#[derive(Drop)]
+pub struct Clerk {
+    pub name: Name,
+    pub rights: List<Right>,
+}
+
+/// What a clerk may be allowed to do.
+#[derive(Clone, Copy, PartialEq, Eq, Debug)]
+pub enum Right {
+    Write,
+    Post,
+    Manual,
+    Read,
+    Lock,
+    Admin,
+}
+
+impl Right {
+    /// The word of the right, as a configuration writes it.
+    #[tactic(auto, unfolding(crate::specs::Elements::right_word))]
+    pub fn word(self) -> &'static str
+        ensures { result.now ≡ right_word self }
+    {
+        match self {
+            Right::Write => "write",
+            Right::Post => "post",
+            Right::Manual => "manual",
+            Right::Read => "read",
+            Right::Lock => "lock",
+            Right::Admin => "admin",
+        }
+    }
+}
+
+impl Element for Right {
+    ghost reads = { right_of };
+
+    ghost label_of = { right_word };
+
+    #[tactic(auto, unfolding(crate::specs::Elements::right_of))]
+    fn parse(text: &str) -> Option<Right> {
+        match text {
+            "write" => Some(Right::Write),
+            "post" => Some(Right::Post),
+            "manual" => Some(Right::Manual),
+            "read" => Some(Right::Read),
+            "lock" => Some(Right::Lock),
+            "admin" => Some(Right::Admin),
+            _ => None,
+        }
+    }
+
+    fn label(&self) -> &str {
+        self.word()
+    }
+}
+
+/// A clerk as the entry says.
+#[tactic(auto, unfolding(crate::specs::Reading::read_clerk))]
+pub(crate) fn read_clerk(alloc: Global, name: &str, value: &Value) -> Result<Clerk, CfgFault>
+    ensures { Gives Memory result (read_clerk name.now (view value.now)) }
+{
+    let keys = entry_keys(alloc, "clerk", &RESERVED_NAMES, &["rights"], name, value)?;
+    let entry = Entry {
+        group: "clerk",
+        name,
+        keys,
+    };
+    let rights = read_rights(alloc, &entry)?;
+    Ok(Clerk {
+        name: Name::parse(name).unwrap(),
+        rights,
+    })
+}
+
+#[tactic(auto, unfolding(crate::specs::Reading::read_rights))]
+fn read_rights(alloc: Global, entry: &Entry) -> Result<List<Right>, CfgFault>
+    requires { entry.now.group.now ≡ codes "clerk" }
+    ensures { Gives Memory result (read_rights entry.now.name.now (table_view entry.now.keys.now)) }
+{
+    let rights = entry.elements(alloc, "rights")?;
+    distinct(alloc, rights)
+}

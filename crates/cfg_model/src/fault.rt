@@ -1,0 +1,74 @@
+//! Why a configuration is refused, and why a document is not posted.
+ghost use Rattle.std.specs.Prelude.{◌≡◌, ◌++◌, IfOk, string_bytes};
+ghost use Rattle.cfg_model.specs.FaultTexts.{fault_text};
+ghost use Rattle.cfg_model.specs.declared.fault.CfgFault.TheVariants.{Memory};
+
+use reg_base::Text;
+use std::alloc::{AllocError, AllocFailed, Global};
+
+/// The first fault of a configuration file.
+#[derive(Drop)]
+pub enum CfgFault {
+    /// The bytes are no UTF-8 or no TOML.
+    NotToml,
+    /// What stands at the path is missing or of a wrong shape.
+    Field { path: Text },
+    /// The name is taken.
+    Twice { name: Text },
+    /// There is no such key or name.
+    Unknown { name: Text },
+    /// So many stand at the path, and that is more than its limit.
+    Count { what: Text, number: usize },
+    /// The allocator had no room.
+    Memory,
+}
+
+impl CfgFault {
+    /// The text that a user reads: number, name and fields, as `2 Field register.stock.kind`.
+    #[tactic(auto, unfolding(crate::specs::FaultTexts::fault_text))]
+    pub fn text(&self, alloc: Global) -> Result<String, AllocError>
+        ensures { IfOk result (λ t. string_bytes t ≡ fault_text self.now) }
+    {
+        match self {
+            CfgFault::NotToml => String::from_str(alloc, "1 NotToml"),
+            CfgFault::Field { path } => with_text(alloc, "2 Field ", path),
+            CfgFault::Twice { name } => with_text(alloc, "3 Twice ", name),
+            CfgFault::Unknown { name } => with_text(alloc, "4 Unknown ", name),
+            CfgFault::Count { what, number } => {
+                let what = what.as_str();
+                format!(in alloc; "5 Count {what} {number}")
+            }
+            CfgFault::Memory => String::from_str(alloc, "0 Memory"),
+        }
+    }
+}
+
+fn with_text(alloc: Global, front: &str, text: &Text) -> Result<String, AllocError>
+    ensures { IfOk result (λ t. string_bytes t ≡ front.now ++ text.now) }
+{
+    let text = text.as_str();
+    format!(in alloc; "{front}{text}")
+}
+
+impl From<AllocError> for CfgFault {
+    ghost from_gives = { λ _ e. e ≡ Memory };
+
+    fn from(_refused: AllocError) -> CfgFault {
+        CfgFault::Memory
+    }
+}
+
+impl<T: Drop> From<AllocFailed<T>> for CfgFault {
+    ghost from_gives = { λ _ e. e ≡ Memory };
+
+    fn from(_refused: AllocFailed<T>) -> CfgFault {
+        CfgFault::Memory
+    }
+}
+
+/// Why the records of a document are refused.
+#[derive(Clone, Copy, Debug, PartialEq, Eq)]
+pub enum PostFault {
+    /// A set would have more than 5,000 records.
+    TooManyRecords,
+}

@@ -1,0 +1,194 @@
+//! The steps of the walk through a file that all groups share.
+ghost use Rattle.std.specs.Prelude.{◌≡◌, true, Ok, Some, None, IfOk, map, length, option_map, option_and_then};
+ghost use Rattle.std.specs.Option.{option_map_or};
+ghost use Rattle.toml.specs.Data.{get_member, as_array, as_str, no_members};
+ghost use Rattle.toml.specs.View.{view, array_view, table_view};
+ghost use Rattle.reg_base.specs.Codes.{is_name};
+ghost use Rattle.reg_base.specs.Results.{Gives, GivesAs, Says, some_or};
+ghost use Rattle.cfg_model.specs.declared.fault.CfgFault.TheVariants.{Memory, Field, Twice, Unknown, Count};
+ghost use Rattle.cfg_model.specs.Words.{is_one_of, first_unknown, entry_path, key_path};
+ghost use Rattle.cfg_model.specs.Walk.{group_entries, entry_keys, known_keys, at_most};
+
+use crate::CfgFault;
+use reg_base::{Name, Text};
+use std::alloc::{AllocError, Global};
+use toml::value::Array;
+use toml::{Table, Value};
+
+/// Names of spaces and of one clerk, which no entry may take.
+pub(crate) const RESERVED_NAMES: [&str; 5] = ["doc", "key", "closed", "batch", "documents"];
+
+/// An entry of a group: its name, and the table of its keys.
+#[derive(Clone, Copy)]
+pub(crate) struct Entry<'a> {
+    pub(crate) group: &'a str,
+    pub(crate) name: &'a str,
+    pub(crate) keys: &'a Table,
+}
+
+impl Entry<'_> {
+    /// What a key of the entry holds.
+    pub(crate) fn get(&self, key: &str) -> Option<&Value>
+        ensures { option_map (λ v. view v.now) result ≡ get_member key.now (table_view self.now.keys.now) }
+    {
+        find(self.keys, key)
+    }
+
+    /// The fault of a key that is missing or of a wrong shape.
+    pub(crate) fn wrong(&self, alloc: Global, key: &str) -> CfgFault
+        ensures { Says Memory result (Field (key_path self.now.group.now self.now.name.now key.now)) }
+    {
+        match self.path(alloc, key) {
+            Ok(path) => CfgFault::Field { path },
+            Err(_) => CfgFault::Memory,
+        }
+    }
+
+    /// Refuses more elements under a key than its limit.
+    pub(crate) fn at_most(
+        &self,
+        alloc: Global,
+        key: &str,
+        limit: usize,
+        number: usize,
+    ) -> Result<(), CfgFault>
+        ensures { Gives Memory result (at_most limit (key_path self.now.group.now self.now.name.now key.now) number) }
+    {
+        if number <= limit {
+            return Ok(());
+        }
+        let what = self.path(alloc, key)?;
+        Err(CfgFault::Count { what, number })
+    }
+
+    fn path(&self, alloc: Global, key: &str) -> Result<Text, AllocError>
+        ensures { IfOk result (λ t. t ≡ key_path self.now.group.now self.now.name.now key.now) }
+    {
+        let group = self.group;
+        let name = self.name;
+        let path = format!(in alloc; "{group}.{name}.{key}")?;
+        Ok(Text::from_string(path))
+    }
+}
+
+/// The entries of a group, or none where the file has no such group.
+#[tactic(auto, using(crate::proofs::Walks::walks), unfolding(crate::specs::Walk::group_entries))]
+pub(crate) fn group_entries<'a>(
+    alloc: Global,
+    top: &'a Table,
+    group: &str,
+    limit: usize,
+) -> Result<Option<&'a Table>, CfgFault>
+    ensures { GivesAs Memory (λ t. option_map_or (λ m. table_view m.now) t no_members) result (group_entries group.now limit (get_member group.now (table_view top.now))) }
+{
+    let Some(value) = find(top, group) else {
+        return Ok(None);
+    };
+    let Some(entries) = value.as_table() else {
+        return Err(wrong_at(alloc, group));
+    };
+    if entries.len() > limit {
+        let what = Text::from_str(alloc, group)?;
+        return Err(CfgFault::Count {
+            what,
+            number: entries.len(),
+        });
+    }
+    Ok(Some(entries))
+}
+
+/// The table of an entry's keys: the entry has a name that is free, and no key that is unknown.
+#[tactic(auto, unfolding(crate::specs::Walk::entry_keys))]
+pub(crate) fn entry_keys<'a>(
+    alloc: Global,
+    group: &str,
+    taken: &[&str],
+    known: &[&str],
+    name: &str,
+    value: &'a Value,
+) -> Result<&'a Table, CfgFault>
+    ensures keys { GivesAs Memory (λ t. table_view t.now) result (entry_keys group.now (map (λ w. w.now) taken.now) (map (λ w. w.now) known.now) name.now (view value.now)) }
+    ensures named { IfOk result (λ _. is_name name.now ≡ true) }
+{
+    if Name::parse(name).is_none() {
+        return Err(wrong_entry(alloc, group, name));
+    }
+    let Some(keys) = value.as_table() else {
+        return Err(wrong_entry(alloc, group, name));
+    };
+    if is_one_of(taken, name) {
+        return Err(twice(alloc, name));
+    }
+    known_keys(alloc, known, keys)?;
+    Ok(keys)
+}
+
+/// Refuses the least key that is not known.
+pub(crate) fn known_keys(alloc: Global, known: &[&str], keys: &Table) -> Result<(), CfgFault>
+    ensures { GivesAs Memory (λ _. table_view keys.now) result (known_keys (map (λ w. w.now) known.now) (table_view keys.now)) }
+{
+    let Some(key) = first_unknown(keys, known) else {
+        return Ok(());
+    };
+    let name = Text::from_str(alloc, key)?;
+    Err(CfgFault::Unknown { name })
+}
+
+/// The fault of a name that is taken.
+pub(crate) fn twice(alloc: Global, name: &str) -> CfgFault
+    ensures { Says Memory result (Twice name.now) }
+{
+    match Text::from_str(alloc, name) {
+        Ok(name) => CfgFault::Twice { name },
+        Err(_) => CfgFault::Memory,
+    }
+}
+
+fn wrong_at(alloc: Global, path: &str) -> CfgFault
+    ensures { Says Memory result (Field path.now) }
+{
+    match Text::from_str(alloc, path) {
+        Ok(path) => CfgFault::Field { path },
+        Err(_) => CfgFault::Memory,
+    }
+}
+
+fn wrong_entry(alloc: Global, group: &str, name: &str) -> CfgFault
+    ensures { Says Memory result (Field (entry_path group.now name.now)) }
+{
+    match format!(in alloc; "{group}.{name}") {
+        Ok(path) => CfgFault::Field {
+            path: Text::from_string(path),
+        },
+        Err(_) => CfgFault::Memory,
+    }
+}
+
+fn find<'a>(table: &'a Table, key: &str) -> Option<&'a Value>
+    ensures { option_map (λ v. view v.now) result ≡ get_member key.now (table_view table.now) }
+{
+    table.get(key)
+}
+
+/// The first key of a table that is not known: tables go in byte order of keys.
+fn first_unknown<'a>(table: &'a Table, known: &[&str]) -> Option<&'a str>
+    ensures { option_map (λ k. k.now) result ≡ first_unknown (map (λ w. w.now) known.now) (table_view table.now) }
+{
+    'keys: for (key, _) in table.iter() {
+        if !is_one_of(known, key.as_str()) {
+            return Some(key.as_str());
+        }
+    }
+    None
+}
+
+fn is_one_of(words: &[&str], text: &str) -> bool
+    ensures { result ≡ is_one_of (map (λ w. w.now) words.now) text.now }
+{
+    'words: for word in words {
+        if *word == text {
+            return true;
+        }
+    }
+    false
+}
