@@ -1,7 +1,7 @@
 -- What the loops of the walk keep, and the lemmas on it.
-use Rattle.std.proofs.Common.{◌≡◌, List, [], ◌∷◌, ◌++◌, Option, Some, None, option_map, Result, Ok, Err, refl, ap, append_assoc, append-nil}
+use Rattle.std.proofs.Common.{◌≡◌, List, [], ◌∷◌, ◌++◌, Option, option_map, Result, Ok, Err, refl, ap, append_assoc, append-nil}
 use Rattle.std.proofs.Common.{ℕ, length, arith, sym}
-use Rattle.toml.specs.View.{view, members_view}
+use Rattle.toml.specs.View.{members_view}
 use Rattle.toml.proofs.Views.{Entry}
 use Rattle.toml.specs.Data.{Data, Members, no_members, member}
 use Rattle.reg_base.specs.Results.{◌>>=◌}

@@ -1,7 +1,6 @@
 -- What the texts in lists spell: dimensions, resources, rights.
-use Rattle.std.specs.Prelude.{ℕ, codes, ◌-◌, ◌==◌, ◌&&◌, nat_le, Bool, true, false, List, [], ◌∷◌, length, Option, Some, None, option_map, option_and_then, if◌then◌else◌}
+use Rattle.std.specs.Prelude.{ℕ, codes, ◌-◌, ◌==◌, ◌&&◌, nat_le, nat_lt, false, List, [], ◌∷◌, length, Option, Some, None, option_map, option_and_then, if◌then◌else◌}
 use Rattle.std.specs.List.{position_or_len, before_first, after_first}
-use Rattle.std.specs.Prelude.{nat_lt}
 use Rattle.std.specs.Str.{bytes_eq}
 use Rattle.reg_base.specs.Codes.{is_name}
 use Rattle.cfg_model.specs.declared.register.Dimension.{Dimension}
@@ -9,7 +8,7 @@ use Rattle.cfg_model.specs.declared.register.Resource.{Resource}
 use Rattle.cfg_model.specs.declared.clerk.Right.{Right}
 use Rattle.cfg_model.specs.declared.clerk.Right.TheVariants.{Write, Post, Manual, Read, Lock, Admin}
 
--- what stands before and after the first colon
+-- what stands before and after the first colon, whose byte is 58
 abbrev pub at_colon : List ℕ → Option (List ℕ × List ℕ)
 at_colon text =
     if nat_lt (position_or_len (λ b. b == 58) text) (length text)
@@ -25,13 +24,15 @@ unfoldable pub dimension_of : List ℕ → Option Dimension
 dimension_of text =
     option_and_then (λ parts.
     option_and_then (λ name.
-    if bytes_eq parts.1 (codes "code") then Some (record { name = name; lot = false }) else None)
+    if bytes_eq parts.1 (codes "code")
+    then Some (record { name = name; lot = false })
+    else None)
     (name_of parts.0))
     (at_colon text)
 
 -- a scale is spelled as one digit from 0 to 6
 unfoldable pub scale_of : List ℕ → Option ℕ
-scale_of (d ∷ []) = if nat_le 48 d && nat_le d 54 then Some (d - 48) else None
+scale_of (digit ∷ []) = if nat_le 48 digit && nat_le digit 54 then Some (digit - 48) else None
 scale_of _ = None
 
 -- a resource is spelled as its name, a colon and its scale

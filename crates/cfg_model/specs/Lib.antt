@@ -1,4 +1,5 @@
 pub mod Words
+pub mod Limits
 pub mod Elements
 pub mod Walk
 pub mod Reading

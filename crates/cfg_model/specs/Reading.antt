@@ -1,13 +1,11 @@
 -- The configuration that the bytes of a file hold, or the first fault on a walk through them.
-use Rattle.std.specs.Prelude.{ℕ, codes, ◌==◌, nat_le, true, false, Bool, List, [], ◌∷◌, length, Option, Some, None, option_and_then, Result, Ok, Err, if◌then◌else◌}
+use Rattle.std.specs.Prelude.{ℕ, codes, ◌==◌, nat_le, true, false, Bool, List, [], length, Option, Some, None, option_and_then, Result, Ok, if◌then◌else◌}
 use Rattle.std.specs.Str.{bytes_eq}
 use Rattle.std.specs.Str.Lossy.{utf8_valid_len}
 use Rattle.toml.specs.Data.{Data, Members, get_member, as_str}
 use Rattle.toml.specs.Parse.{parse_document}
 use Rattle.reg_base.specs.Results.{◌>>=◌, unless, some_or}
 use Rattle.cfg_model.specs.declared.config.Config.{Config}
-use Rattle.cfg_model.specs.declared.config.TheConstants.{REGISTER_LIMIT, CLERK_LIMIT}
-use Rattle.cfg_model.specs.declared.register.TheConstants.{DIMENSION_LIMIT, RESOURCE_LIMIT}
 use Rattle.cfg_model.specs.declared.register.Register.{Register}
 use Rattle.cfg_model.specs.declared.register.Dimension.{Dimension}
 use Rattle.cfg_model.specs.declared.register.Resource.{Resource}
@@ -16,8 +14,9 @@ use Rattle.cfg_model.specs.declared.clerk.Right.{Right}
 use Rattle.cfg_model.specs.declared.fault.CfgFault.{CfgFault}
 use Rattle.cfg_model.specs.declared.fault.CfgFault.TheVariants.{NotToml, Field}
 use Rattle.cfg_model.specs.Words.{key_path, reserved_names, group_keys, register_keys, clerk_keys}
+use Rattle.cfg_model.specs.Limits.{register_limit, clerk_limit, dimension_limit, resource_limit}
 use Rattle.cfg_model.specs.Elements.{dimension_of, resource_of, right_of, right_word}
-use Rattle.cfg_model.specs.Walk.{group_entries, each_entry, entry_keys, known_keys, at_most, text_list, distinct}
+use Rattle.cfg_model.specs.Walk.{group_entries, each_entry, entry_keys, known_keys, at_most, of_shape, text_list, distinct}
 
 -- the table that a file says: UTF-8 that the reader of TOML takes
 unfoldable pub document : List ℕ → Option Members
@@ -30,26 +29,26 @@ balance_of d =
 
 -- the kind of a register: whether it has balances
 unfoldable pub read_balance : List ℕ → Members → Result Bool CfgFault
-read_balance name keys =
-    let path = key_path (codes "register") name (codes "kind") in
-    some_or (option_and_then balance_of (get_member (codes "kind") keys)) (Field path)
+read_balance name keys = do
+  let path = key_path (codes "register") name (codes "kind")
+  some_or (of_shape balance_of (codes "kind") keys) (Field path)
 
 -- the dimensions of a register: the right shape, then not too many, then none twice
 unfoldable pub read_dimensions : List ℕ → Members → Result (List Dimension) CfgFault
 read_dimensions name keys = do
   let path = key_path (codes "register") name (codes "dimensions")
-  ds ← some_or (option_and_then (text_list dimension_of) (get_member (codes "dimensions") keys)) (Field path)
-  _ ← at_most DIMENSION_LIMIT path (length ds)
+  ds ← some_or (of_shape (text_list dimension_of) (codes "dimensions") keys) (Field path)
+  _ ← at_most dimension_limit path (length ds)
   distinct (λ d. d.name) ds
 
--- the resources of a register: the right shape with one at the least, then not too many, then none
--- twice
+-- the resources of a register: the right shape with one at the least, then not too many, then
+-- none twice
 unfoldable pub read_resources : List ℕ → Members → Result (List Resource) CfgFault
 read_resources name keys = do
   let path = key_path (codes "register") name (codes "resources")
-  rs ← some_or (option_and_then (text_list resource_of) (get_member (codes "resources") keys)) (Field path)
+  rs ← some_or (of_shape (text_list resource_of) (codes "resources") keys) (Field path)
   _ ← unless (nat_le 1 (length rs)) (Field path)
-  _ ← at_most RESOURCE_LIMIT path (length rs)
+  _ ← at_most resource_limit path (length rs)
   distinct (λ r. r.name) rs
 
 -- a register: its kind, its dimensions, its resources
@@ -65,7 +64,7 @@ read_register name d = do
 unfoldable pub read_rights : List ℕ → Members → Result (List Right) CfgFault
 read_rights name keys = do
   let path = key_path (codes "clerk") name (codes "rights")
-  rights ← some_or (option_and_then (text_list right_of) (get_member (codes "rights") keys)) (Field path)
+  rights ← some_or (of_shape (text_list right_of) (codes "rights") keys) (Field path)
   distinct right_word rights
 
 -- a clerk: the rights
@@ -78,13 +77,13 @@ read_clerk name d = do
 -- the registers of a file
 unfoldable pub read_registers : Members → Result (List Register) CfgFault
 read_registers top = do
-  entries ← group_entries (codes "register") REGISTER_LIMIT (get_member (codes "register") top)
+  entries ← group_entries (codes "register") register_limit (get_member (codes "register") top)
   each_entry read_register entries
 
 -- the clerks of a file
 unfoldable pub read_clerks : Members → Result (List Clerk) CfgFault
 read_clerks top = do
-  entries ← group_entries (codes "clerk") CLERK_LIMIT (get_member (codes "clerk") top)
+  entries ← group_entries (codes "clerk") clerk_limit (get_member (codes "clerk") top)
   each_entry read_clerk entries
 
 -- the configuration of a table: its keys are known, then come the groups in order

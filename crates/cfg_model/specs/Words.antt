@@ -1,8 +1,13 @@
 -- The keys of a configuration file, its paths, and the names that are taken.
-use Rattle.std.specs.Prelude.{ℕ, codes, Bool, List, [], ◌∷◌, ◌++◌, Option, Some, None, if◌then◌else◌}
+use Rattle.std.specs.Prelude.{ℕ, codes, Bool, List, [], ◌∷◌, ◌++◌, map, Option, Some, None, if◌then◌else◌}
+use Rattle.std.specs.Borrow.{Bor}
 use Rattle.std.specs.List.{list_any}
 use Rattle.std.specs.Str.{bytes_eq}
 use Rattle.toml.specs.Data.{Members, no_members, member}
+
+-- the texts that references point to
+abbrev pub texts : List (Bor (List ℕ)) → List (List ℕ)
+texts words = map (λ word. word.now) words
 
 -- the text is one of these
 abbrev pub is_one_of : List (List ℕ) → List ℕ → Bool
@@ -17,8 +22,8 @@ first_unknown known (member key d ms) =
 -- the first text that stands among those before it, given those seen already
 abbrev pub first_repeated : List (List ℕ) → List (List ℕ) → Option (List ℕ)
 first_repeated seen [] = None
-first_repeated seen (text ∷ texts) =
-    if is_one_of seen text then Some text else first_repeated (seen ++ text ∷ []) texts
+first_repeated seen (text ∷ more) =
+    if is_one_of seen text then Some text else first_repeated (seen ++ text ∷ []) more
 
 -- where an entry stands, as `register.stock`
 abbrev pub entry_path : List ℕ → List ℕ → List ℕ
@@ -28,9 +33,10 @@ entry_path group name = group ++ (codes "." ++ name)
 abbrev pub key_path : List ℕ → List ℕ → List ℕ → List ℕ
 key_path group name key = group ++ (codes "." ++ (name ++ (codes "." ++ key)))
 
--- the names of spaces and of one clerk that no entry may take
+-- the names of spaces, and of the clerk that runs by itself: no entry may take them
 abbrev pub reserved_names : List (List ℕ)
-reserved_names = codes "doc" ∷ codes "key" ∷ codes "closed" ∷ codes "batch" ∷ codes "documents" ∷ []
+reserved_names =
+    codes "doc" ∷ codes "key" ∷ codes "closed" ∷ codes "batch" ∷ codes "documents" ∷ []
 
 -- the keys of the top level
 abbrev pub group_keys : List (List ℕ)

@@ -1,10 +1,13 @@
 //! The configuration, and how it is read from the bytes of a file.
-ghost use Rattle.std.specs.Prelude.{◌≡◌, map, option_map, IfErr, Ok};
+ghost use Rattle.std.specs.Prelude.{◌≡◌, IfOk};
 ghost use Rattle.toml.specs.View.{table_view};
 ghost use Rattle.reg_base.specs.Results.{Gives, GivesAs, some_or};
 ghost use Rattle.cfg_model.specs.declared.fault.CfgFault.TheVariants.{Memory, NotToml};
+ghost use Rattle.cfg_model.specs.Limits.{IsWithinLimits};
 ghost use Rattle.cfg_model.specs.Places.{clerk_place, register_place};
-ghost use Rattle.cfg_model.specs.Reading.{read_config, read_registers, read_clerks, read_register as read_register_of, read_clerk as read_clerk_of, config_of, document};
+ghost use Rattle.cfg_model.specs.Reading.{read_config, config_of, document};
+ghost use Rattle.cfg_model.specs.Reading.{read_registers, read_register as register_of};
+ghost use Rattle.cfg_model.specs.Reading.{read_clerks, read_clerk as clerk_of};
 ghost use Rattle.cfg_model.specs.Walk.{each_entry};
 
 use crate::clerk::read_clerk;
@@ -36,7 +39,8 @@ impl Config {
     /// The configuration that the bytes of a file hold, or the first fault on the walk through them.
     #[tactic(auto, unfolding(crate::specs::Reading::read_config))]
     pub fn read(alloc: Global, bytes: &[u8]) -> Result<Config, CfgFault>
-        ensures { Gives Memory result (read_config bytes.now) }
+        ensures read { Gives Memory result (read_config bytes.now) }
+        ensures limits { IfOk result IsWithinLimits }
     {
         let top = read_document(alloc, bytes)?;
         config_of(alloc, &top)
@@ -102,7 +106,7 @@ fn read_registers(alloc: Global, top: &Table) -> Result<List<Register>, CfgFault
 
 #[tactic(auto, using(crate::proofs::Walks::walks))]
 fn each_register(alloc: Global, entries: &Table) -> Result<List<Register>, CfgFault>
-    ensures { Gives Memory result (each_entry read_register_of (table_view entries.now)) }
+    ensures { Gives Memory result (each_entry register_of (table_view entries.now)) }
 {
     let mut registers = Vec::new(alloc);
     'entries: for (name, value) in entries.iter() {
@@ -123,7 +127,7 @@ fn read_clerks(alloc: Global, top: &Table) -> Result<List<Clerk>, CfgFault>
 
 #[tactic(auto, using(crate::proofs::Walks::walks))]
 fn each_clerk(alloc: Global, entries: &Table) -> Result<List<Clerk>, CfgFault>
-    ensures { Gives Memory result (each_entry read_clerk_of (table_view entries.now)) }
+    ensures { Gives Memory result (each_entry clerk_of (table_view entries.now)) }
 {
     let mut clerks = Vec::new(alloc);
     'entries: for (name, value) in entries.iter() {

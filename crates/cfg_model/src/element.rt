@@ -1,11 +1,10 @@
 //! Lists of texts, each of which spells an element.
-ghost use Rattle.std.specs.Prelude.{◌≡◌, IfOk, List, ℕ, Option, [], map, option_map, option_and_then};
-ghost use Rattle.toml.specs.Data.{get_member, as_array};
+ghost use Rattle.std.specs.Prelude.{◌≡◌, ℕ, List, [], map, Option, option_map, IfOk};
 ghost use Rattle.toml.specs.View.{array_view, table_view};
 ghost use Rattle.reg_base.specs.Results.{Gives, some_or};
 ghost use Rattle.cfg_model.specs.declared.fault.CfgFault.TheVariants.{Memory, Field};
 ghost use Rattle.cfg_model.specs.Words.{is_one_of, first_repeated, key_path};
-ghost use Rattle.cfg_model.specs.Walk.{spelled, text_list, distinct};
+ghost use Rattle.cfg_model.specs.Walk.{of_shape, spelled, text_list, distinct};
 
 use crate::CfgFault;
 use crate::walk::{Entry, twice};
@@ -30,7 +29,9 @@ pub(crate) trait Element: Drop {
 impl Entry<'_> {
     /// The elements that the list of texts under a key spells.
     pub(crate) fn elements<E: Element>(&self, alloc: Global, key: &str) -> Result<List<E>, CfgFault>
-        ensures { Gives Memory result (some_or (option_and_then (text_list E.reads) (get_member key.now (table_view self.now.keys.now))) (Field (key_path self.now.group.now self.now.name.now key.now))) }
+        ensures { let path = key_path self.now.group.now self.now.name.now key.now in
+            let found = of_shape (text_list E.reads) key.now (table_view self.now.keys.now) in
+            Gives Memory result (some_or found (Field path)) }
     {
         let Some(value) = self.get(key) else {
             return Err(self.wrong(alloc, key));

@@ -7,7 +7,7 @@ use reg_base::Text;
 use std::alloc::{AllocError, AllocFailed, Global};
 
 /// The first fault of a configuration file.
-#[derive(Drop)]
+#[derive(Debug, Drop)]
 pub enum CfgFault {
     /// The bytes are no UTF-8 or no TOML.
     NotToml,

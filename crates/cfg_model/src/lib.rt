@@ -18,6 +18,8 @@ mod kind;
 mod ledger;
 mod register;
 mod sequence;
+#[cfg(test)]
+mod tests;
 mod walk;
 
 pub use clerk::{Clerk, Right};

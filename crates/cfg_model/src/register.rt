@@ -1,11 +1,11 @@
 //! A register: the dimensions by which its records are told apart, and the numbers they bring.
-ghost use Rattle.std.specs.Prelude.{◌≡◌, codes, true};
+ghost use Rattle.std.specs.Prelude.{◌≡◌, codes};
 ghost use Rattle.toml.specs.View.{view, table_view};
-ghost use Rattle.reg_base.specs.Codes.{is_name};
 ghost use Rattle.reg_base.specs.Results.{Gives};
 ghost use Rattle.cfg_model.specs.declared.fault.CfgFault.TheVariants.{Memory};
 ghost use Rattle.cfg_model.specs.Elements.{dimension_of, resource_of, scale_of};
-ghost use Rattle.cfg_model.specs.Reading.{read_register, read_balance, read_dimensions, read_resources};
+ghost use Rattle.cfg_model.specs.Reading.{read_register, read_balance};
+ghost use Rattle.cfg_model.specs.Reading.{read_dimensions, read_resources};
 
 use crate::CfgFault;
 use crate::element::{Element, distinct};

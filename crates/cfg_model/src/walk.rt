@@ -1,18 +1,17 @@
 //! The steps of the walk through a file that all groups share.
-ghost use Rattle.std.specs.Prelude.{◌≡◌, true, Ok, Some, None, IfOk, map, length, option_map, option_and_then};
-ghost use Rattle.std.specs.Option.{option_map_or};
-ghost use Rattle.toml.specs.Data.{get_member, as_array, as_str, no_members};
-ghost use Rattle.toml.specs.View.{view, array_view, table_view};
+ghost use Rattle.std.specs.Prelude.{◌≡◌, true, IfOk, option_map};
+ghost use Rattle.toml.specs.Data.{get_member};
+ghost use Rattle.toml.specs.View.{view, table_view};
 ghost use Rattle.reg_base.specs.Codes.{is_name};
-ghost use Rattle.reg_base.specs.Results.{Gives, GivesAs, Says, some_or};
-ghost use Rattle.cfg_model.specs.declared.fault.CfgFault.TheVariants.{Memory, Field, Twice, Unknown, Count};
-ghost use Rattle.cfg_model.specs.Words.{is_one_of, first_unknown, entry_path, key_path};
-ghost use Rattle.cfg_model.specs.Walk.{group_entries, entry_keys, known_keys, at_most};
+ghost use Rattle.reg_base.specs.Results.{Gives, GivesAs, Says};
+ghost use Rattle.cfg_model.specs.declared.fault.CfgFault.TheVariants.{Memory, Field, Twice};
+ghost use Rattle.cfg_model.specs.Words.{texts, is_one_of, first_unknown, entry_path, key_path};
+ghost use Rattle.cfg_model.specs.Walk.{members_or_none, group_entries, entry_keys, known_keys};
+ghost use Rattle.cfg_model.specs.Walk.{at_most};
 
 use crate::CfgFault;
 use reg_base::{Name, Text};
 use std::alloc::{AllocError, Global};
-use toml::value::Array;
 use toml::{Table, Value};
 
 /// Names of spaces and of one clerk, which no entry may take.
@@ -36,7 +35,8 @@ impl Entry<'_> {
 
     /// The fault of a key that is missing or of a wrong shape.
     pub(crate) fn wrong(&self, alloc: Global, key: &str) -> CfgFault
-        ensures { Says Memory result (Field (key_path self.now.group.now self.now.name.now key.now)) }
+        ensures { let path = key_path self.now.group.now self.now.name.now key.now in
+            Says Memory result (Field path) }
     {
         match self.path(alloc, key) {
             Ok(path) => CfgFault::Field { path },
@@ -52,7 +52,8 @@ impl Entry<'_> {
         limit: usize,
         number: usize,
     ) -> Result<(), CfgFault>
-        ensures { Gives Memory result (at_most limit (key_path self.now.group.now self.now.name.now key.now) number) }
+        ensures { let path = key_path self.now.group.now self.now.name.now key.now in
+            Gives Memory result (at_most limit path number) }
     {
         if number <= limit {
             return Ok(());
@@ -79,7 +80,8 @@ pub(crate) fn group_entries<'a>(
     group: &str,
     limit: usize,
 ) -> Result<Option<&'a Table>, CfgFault>
-    ensures { GivesAs Memory (λ t. option_map_or (λ m. table_view m.now) t no_members) result (group_entries group.now limit (get_member group.now (table_view top.now))) }
+    ensures { let found = get_member group.now (table_view top.now) in
+        GivesAs Memory members_or_none result (group_entries group.now limit found) }
 {
     let Some(value) = find(top, group) else {
         return Ok(None);
@@ -107,7 +109,10 @@ pub(crate) fn entry_keys<'a>(
     name: &str,
     value: &'a Value,
 ) -> Result<&'a Table, CfgFault>
-    ensures keys { GivesAs Memory (λ t. table_view t.now) result (entry_keys group.now (map (λ w. w.now) taken.now) (map (λ w. w.now) known.now) name.now (view value.now)) }
+    ensures keys { let taken_names = texts taken.now in
+        let known_names = texts known.now in
+        let keys = entry_keys group.now taken_names known_names name.now (view value.now) in
+        GivesAs Memory (λ t. table_view t.now) result keys }
     ensures named { IfOk result (λ _. is_name name.now ≡ true) }
 {
     if Name::parse(name).is_none() {
@@ -125,7 +130,8 @@ pub(crate) fn entry_keys<'a>(
 
 /// Refuses the least key that is not known.
 pub(crate) fn known_keys(alloc: Global, known: &[&str], keys: &Table) -> Result<(), CfgFault>
-    ensures { GivesAs Memory (λ _. table_view keys.now) result (known_keys (map (λ w. w.now) known.now) (table_view keys.now)) }
+    ensures { let found = table_view keys.now in
+        GivesAs Memory (λ _. found) result (known_keys (texts known.now) found) }
 {
     let Some(key) = first_unknown(keys, known) else {
         return Ok(());
@@ -172,7 +178,7 @@ fn find<'a>(table: &'a Table, key: &str) -> Option<&'a Value>
 
 /// The first key of a table that is not known: tables go in byte order of keys.
 fn first_unknown<'a>(table: &'a Table, known: &[&str]) -> Option<&'a str>
-    ensures { option_map (λ k. k.now) result ≡ first_unknown (map (λ w. w.now) known.now) (table_view table.now) }
+    ensures { option_map (λ k. k.now) result ≡ first_unknown (texts known.now) (table_view table.now) }
 {
     'keys: for (key, _) in table.iter() {
         if !is_one_of(known, key.as_str()) {
@@ -183,7 +189,7 @@ fn first_unknown<'a>(table: &'a Table, known: &[&str]) -> Option<&'a str>
 }
 
 fn is_one_of(words: &[&str], text: &str) -> bool
-    ensures { result ≡ is_one_of (map (λ w. w.now) words.now) text.now }
+    ensures { result ≡ is_one_of (texts words.now) text.now }
 {
     'words: for word in words {
         if *word == text {
