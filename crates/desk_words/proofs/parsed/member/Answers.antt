@@ -1,0 +1,8 @@
+use Rattle.std.proofs.Common.{ap, ◌∙◌, option_map}
+use Rattle.serde_json.proofs.Views.{view_of_ref, view-lookup}
+use Rattle.serde_json.specs.View.{view}
+use Rattle.desk_words.proofs.parsed.member.Goals as goal
+
+pub returns : goal.returns
+returns c =
+    view_of_ref _ ∙ ap (option_map view) c.get.ensures.value ∙ view-lookup c.args.name.now c.args.object.now.entries

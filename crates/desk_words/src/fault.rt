@@ -1,0 +1,76 @@
+//! Why a line is no request.
+ghost use Rattle.std.specs.Prelude.{◌≡◌};
+ghost use Rattle.desk_words.specs.Members.{member_name};
+
+use reg_base::Text;
+use std::alloc::{AllocError, AllocFailed};
+
+/// A member of a request, as a fault names it.
+#[derive(Clone, Copy)]
+pub enum Member {
+    Op,
+    Clerk,
+    No,
+    Date,
+    Sets,
+    Register,
+    Cut,
+}
+
+impl Member {
+    /// The member's word in a request.
+    pub fn name(self) -> &'static str
+        ensures { result.now ≡ member_name self }
+    {
+        match self {
+            Member::Op => "op",
+            Member::Clerk => "clerk",
+            Member::No => "no",
+            Member::Date => "date",
+            Member::Sets => "sets",
+            Member::Register => "register",
+            Member::Cut => "cut",
+        }
+    }
+}
+
+/// Why a line is no request: the first of these that holds.
+#[derive(Drop)]
+pub enum WordFault {
+    /// The line is longer than a request may be; its length in bytes.
+    TooLong { bytes: u64 },
+    NotJson,
+    NotObject,
+    /// The operation is none of those that there are.
+    UnknownOp,
+    /// The first member that the operation asks for and the line lacks.
+    Missing { member: Member },
+    /// The least member, by bytes, that the operation does not have.
+    UnknownMember { name: Text },
+    /// The first member that is not of its shape.
+    BadMember { member: Member },
+    /// Want of memory, which says nothing of the line.
+    Memory,
+}
+
+impl From<AllocError> for WordFault {
+    ghost use Rattle.std.specs.Prelude.{◌≡◌};
+    ghost use Rattle.desk_words.specs.declared.fault.WordFault.TheVariants.{Memory};
+
+    ghost from_gives = { λ _ e. e ≡ Memory };
+
+    fn from(_refused: AllocError) -> WordFault {
+        WordFault::Memory
+    }
+}
+
+impl<T: Drop> From<AllocFailed<T>> for WordFault {
+    ghost use Rattle.std.specs.Prelude.{◌≡◌};
+    ghost use Rattle.desk_words.specs.declared.fault.WordFault.TheVariants.{Memory};
+
+    ghost from_gives = { λ _ e. e ≡ Memory };
+
+    fn from(_refused: AllocFailed<T>) -> WordFault {
+        WordFault::Memory
+    }
+}

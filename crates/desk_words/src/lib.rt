@@ -1,0 +1,24 @@
+//! Requests as they are read from a line, and replies as they are printed.
+//!
+//! Means: `request` in `specs/Reading.antt` says which request a line is, or its first fault;
+//! `reply_text` in `specs/ReplyTexts.antt` is the line that a reply is printed as.
+//!
+//! Stands on: `serde_json` for JSON, and `reg_base` for names, dates, cuts and codes.
+//!
+//! Promises: a line is read exactly as `request` says, and a reply printed exactly as
+//! `reply_text` says; want of memory alone is free.
+//!
+//! Leaves open: whether a register, a clerk or a value that a request names is known.
+#![tactic(auto)]
+
+mod fault;
+mod members;
+mod parsed;
+mod read;
+mod request;
+mod shapes;
+
+pub use fault::{Member, WordFault};
+pub use request::{
+    Balance, FilterText, LedgerText, Manual, RecordText, RegisterText, Request, SetText,
+};

@@ -1,0 +1,91 @@
+//! Operations, and the members that each has.
+ghost use Rattle.std.specs.Prelude.{◌≡◌, option_map};
+ghost use Rattle.serde_json.specs.View.{members_view};
+ghost use Rattle.desk_words.specs.Members.{operation_named, required, optional, first_missing, is_name_of, first_unknown};
+
+use crate::fault::Member;
+use crate::parsed::{Object, member};
+
+/// What a line may ask for.
+#[derive(Clone, Copy)]
+pub(crate) enum Operation {
+    Manual,
+    Balance,
+}
+
+impl Operation {
+    pub(crate) fn named(name: &str) -> Option<Operation>
+        ensures { result ≡ operation_named name.now }
+    {
+        match name {
+            "manual" => Some(Operation::Manual),
+            "balance" => Some(Operation::Balance),
+            _ => None,
+        }
+    }
+
+    /// The members that the operation asks for, in order.
+    pub(crate) fn required(self) -> &'static [Member]
+        ensures { result.now ≡ required self }
+    {
+        match self {
+            Operation::Manual => &[
+                Member::Op,
+                Member::Clerk,
+                Member::No,
+                Member::Date,
+                Member::Sets,
+            ],
+            Operation::Balance => &[Member::Op, Member::Clerk, Member::Register],
+        }
+    }
+
+    /// The members that the operation may have besides.
+    pub(crate) fn optional(self) -> &'static [Member]
+        ensures { result.now ≡ optional self }
+    {
+        match self {
+            Operation::Manual => &[],
+            Operation::Balance => &[Member::Cut],
+        }
+    }
+}
+
+/// The first of the members that an object lacks.
+pub(crate) fn first_missing(members: &[Member], object: &Object) -> Option<Member>
+    ensures { result ≡ first_missing members.now (members_view object.now.entries) }
+{
+    'members: for m in members {
+        if member(object, m.name()).is_none() {
+            return Some(*m);
+        }
+    }
+    None
+}
+
+/// Whether one of the members has the name.
+fn is_name_of(members: &[Member], name: &str) -> bool
+    ensures { result ≡ is_name_of members.now name.now }
+{
+    'members: for m in members {
+        if m.name() == name {
+            return true;
+        }
+    }
+    false
+}
+
+/// The least name, by bytes, that is of no member of the operation.
+pub(crate) fn first_unknown(operation: Operation, object: &Object) -> Option<&str>
+    ensures { option_map (λ n. n.now) result
+        ≡ first_unknown operation (members_view object.now.entries) }
+{
+    'entries: for (name, _value) in object.iter() {
+        let is_known = is_name_of(operation.required(), name.as_str())
+            || is_name_of(operation.optional(), name.as_str());
+        if !is_known {
+            return Some(name.as_str());
+        }
+    }
+    None
+}

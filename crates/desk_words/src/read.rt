@@ -1,0 +1,165 @@
+//! From a line to a request.
+ghost use Rattle.serde_json.specs.View.{members_view};
+ghost use Rattle.reg_base.specs.Results.{Gives, Says};
+ghost use Rattle.desk_words.specs.declared.fault.WordFault.TheVariants.{Memory, UnknownMember};
+ghost use Rattle.desk_words.specs.Reading.{operation_of, check_present, check_known, name_at, number_at, date_at, sets_at, cut_at, manual_of, balance_of, members_of, request_in, request_of_text};
+
+use crate::fault::{Member, WordFault};
+use crate::members::{Operation, first_missing, first_unknown};
+use crate::parsed::{Object, document, member};
+use crate::request::{Balance, Manual, Request, SetText};
+use crate::shapes::{cut_of, date_of, name_of, number_of, sets_of, value_at};
+use reg_base::{Cut, Date, List, Name, Text};
+use std::alloc::Global;
+
+impl Request {
+    /// The request that the text of a line is, however long the line.
+    #[tactic(auto, unfolding(crate::specs::Reading::request_of_text))]
+    pub fn read_text(alloc: Global, bytes: &[u8]) -> Result<Request, WordFault>
+        ensures { Gives Memory result (request_of_text bytes.now) }
+    {
+        let document = document(alloc, bytes)?;
+        let Some(object) = document.as_object() else {
+            return Err(WordFault::NotObject);
+        };
+        request_in(alloc, object)
+    }
+}
+
+#[tactic(auto, unfolding(crate::specs::Reading::request_in))]
+fn request_in(alloc: Global, object: &Object) -> Result<Request, WordFault>
+    ensures { Gives Memory result (request_in (members_view object.now.entries)) }
+{
+    let operation = operation_of(object)?;
+    check_present(operation, object)?;
+    check_known(alloc, operation, object)?;
+    members_of(alloc, operation, object)
+}
+
+#[tactic(auto, unfolding(crate::specs::Reading::operation_of))]
+fn operation_of(object: &Object) -> Result<Operation, WordFault>
+    ensures { Gives Memory result (operation_of (members_view object.now.entries)) }
+{
+    let Some(value) = member(object, Member::Op.name()) else {
+        return Err(WordFault::Missing { member: Member::Op });
+    };
+    match value.as_str().and_then(Operation::named) {
+        Some(operation) => Ok(operation),
+        None => Err(WordFault::UnknownOp),
+    }
+}
+
+#[tactic(auto, unfolding(crate::specs::Reading::check_present))]
+fn check_present(operation: Operation, object: &Object) -> Result<(), WordFault>
+    ensures { Gives Memory result (check_present operation (members_view object.now.entries)) }
+{
+    match first_missing(operation.required(), object) {
+        Some(member) => Err(WordFault::Missing { member }),
+        None => Ok(()),
+    }
+}
+
+#[tactic(auto, unfolding(crate::specs::Reading::check_known))]
+fn check_known(alloc: Global, operation: Operation, object: &Object) -> Result<(), WordFault>
+    ensures { Gives Memory result (check_known operation (members_view object.now.entries)) }
+{
+    match first_unknown(operation, object) {
+        Some(name) => Err(unknown_member(alloc, name)),
+        None => Ok(()),
+    }
+}
+
+fn unknown_member(alloc: Global, name: &str) -> WordFault
+    ensures { Says Memory result (UnknownMember name.now) }
+{
+    match Text::from_str(alloc, name) {
+        Ok(name) => WordFault::UnknownMember { name },
+        Err(_) => WordFault::Memory,
+    }
+}
+
+#[tactic(auto, unfolding(crate::specs::Reading::members_of))]
+fn members_of(
+    alloc: Global,
+    operation: Operation,
+    object: &Object,
+) -> Result<Request, WordFault>
+    ensures { Gives Memory result (members_of operation (members_view object.now.entries)) }
+{
+    match operation {
+        Operation::Manual => Ok(Request::Manual(manual_of(alloc, object)?)),
+        Operation::Balance => Ok(Request::Balance(balance_of(object)?)),
+    }
+}
+
+#[tactic(auto, unfolding(crate::specs::Reading::manual_of))]
+fn manual_of(alloc: Global, object: &Object) -> Result<Manual, WordFault>
+    ensures { Gives Memory result (manual_of (members_view object.now.entries)) }
+{
+    let clerk = name_at(Member::Clerk, object)?;
+    let no = number_at(Member::No, object)?;
+    let date = date_at(Member::Date, object)?;
+    let sets = sets_at(alloc, Member::Sets, object)?;
+    Ok(Manual {
+        clerk,
+        no,
+        doc: None,
+        key: None,
+        date,
+        sets,
+        comment: None,
+        tx: None,
+    })
+}
+
+#[tactic(auto, unfolding(crate::specs::Reading::balance_of))]
+fn balance_of(object: &Object) -> Result<Balance, WordFault>
+    ensures { Gives Memory result (balance_of (members_view object.now.entries)) }
+{
+    let clerk = name_at(Member::Clerk, object)?;
+    let register = name_at(Member::Register, object)?;
+    let cut = cut_at(object)?;
+    Ok(Balance {
+        clerk,
+        register,
+        filter: None,
+        group: None,
+        cut,
+        tx: None,
+    })
+}
+
+fn name_at(member: Member, object: &Object) -> Result<Name, WordFault>
+    ensures { Gives Memory result (name_at member (members_view object.now.entries)) }
+{
+    name_of(member, value_at(member, member.name(), object)?)
+}
+
+fn number_at(member: Member, object: &Object) -> Result<u32, WordFault>
+    ensures { Gives Memory result (number_at member (members_view object.now.entries)) }
+{
+    number_of(member, value_at(member, member.name(), object)?)
+}
+
+fn date_at(member: Member, object: &Object) -> Result<Date, WordFault>
+    ensures { Gives Memory result (date_at member (members_view object.now.entries)) }
+{
+    date_of(member, value_at(member, member.name(), object)?)
+}
+
+fn sets_at(alloc: Global, member: Member, object: &Object) -> Result<List<SetText>, WordFault>
+    ensures { Gives Memory result (sets_at member (members_view object.now.entries)) }
+{
+    sets_of(alloc, member, value_at(member, member.name(), object)?)
+}
+
+/// The cut, where the member stands at all.
+#[tactic(auto, unfolding(crate::specs::Reading::cut_at))]
+fn cut_at(object: &Object) -> Result<Option<Cut>, WordFault>
+    ensures { Gives Memory result (cut_at (members_view object.now.entries)) }
+{
+    match member(object, Member::Cut.name()) {
+        Some(value) => Ok(Some(cut_of(Member::Cut, value)?)),
+        None => Ok(None),
+    }
+}
