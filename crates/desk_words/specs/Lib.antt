@@ -1,3 +1,4 @@
 pub mod Members
 pub mod Shapes
 pub mod Reading
+pub mod ReplyTexts

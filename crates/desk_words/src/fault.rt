@@ -1,6 +1,7 @@
 //! Why a line is no request.
 ghost use Rattle.std.specs.Prelude.{◌≡◌};
 ghost use Rattle.desk_words.specs.Members.{member_name};
+ghost use Rattle.desk_words.specs.ReplyTexts.{word_fault_number};
 
 use reg_base::Text;
 use std::alloc::{AllocError, AllocFailed};
@@ -51,6 +52,24 @@ pub enum WordFault {
     BadMember { member: Member },
     /// Want of memory, which says nothing of the line.
     Memory,
+}
+
+impl WordFault {
+    /// The number of the fault; want of memory is none and is never told.
+    pub fn number(&self) -> u64
+        ensures { result ≡ word_fault_number self.now }
+    {
+        match self {
+            WordFault::TooLong { .. } => 1,
+            WordFault::NotJson => 2,
+            WordFault::NotObject => 3,
+            WordFault::UnknownOp => 4,
+            WordFault::Missing { .. } => 5,
+            WordFault::UnknownMember { .. } => 6,
+            WordFault::BadMember { .. } => 7,
+            WordFault::Memory => 0,
+        }
+    }
 }
 
 impl From<AllocError> for WordFault {

@@ -15,10 +15,13 @@ mod fault;
 mod members;
 mod parsed;
 mod read;
+mod reply;
+mod reply_values;
 mod request;
 mod shapes;
 
 pub use fault::{Member, WordFault};
+pub use reply::{Answer, Field, Limit, PostFault, Refusal, Reply, post_fault_number};
 pub use request::{
     Balance, FilterText, LedgerText, Manual, RecordText, RegisterText, Request, SetText,
 };

@@ -1,0 +1,80 @@
+-- Sums have their texts, and a reply has no float, so that its text is known.
+use Rattle.std.proofs.Common.{◌≡◌, ℕ, ℤ, Bool, false, List, [], ◌∷◌, ◌++◌, map, ◌⊎◌, ⊎_elim, refl, sym, ap, ◌∙◌, append-nil}
+use Rattle.serde_json.specs.Data.{Data, string}
+use Rattle.serde_json.specs.View.{items_of}
+use Rattle.serde_json.specs.Written.{has_float, items_have_float}
+use Rattle.reg_base.specs.declared.records.SumRow.{SumRow}
+use Rattle.desk_words.specs.declared.fault.WordFault.{WordFault}
+use Rattle.desk_words.specs.declared.fault.WordFault.TheVariants.{TooLong, NotJson, NotObject, UnknownOp, Missing, UnknownMember, BadMember, Memory}
+use Rattle.desk_words.specs.declared.reply.Reply.{Reply}
+use Rattle.desk_words.specs.declared.reply.Reply.TheVariants.{Done, Refused}
+use Rattle.desk_words.specs.declared.reply.Answer.{Answer}
+use Rattle.desk_words.specs.declared.reply.Answer.TheVariants.{Document, Balance}
+use Rattle.desk_words.specs.declared.reply.Refusal.{Refusal}
+use Rattle.desk_words.specs.declared.reply.Refusal.TheVariants.{BadLine, UnknownClerk, BadField, Limit, Rule}
+use Rattle.desk_words.specs.ReplyTexts.{sum_texts, texts_data, row_data, rows_data, document_data, answer_data, word_fault_members, refusal_detail, refusal_data, reply_data}
+
+-- without sums there are no texts
+sum_texts-nil : (scales : List ℕ) → sum_texts scales [] ≡ []
+sum_texts-nil [] = refl
+sum_texts-nil (scale ∷ scales) = refl
+
+-- where scales or sums are spent, no text is left to make
+pub sum_texts-spent : (front : List Data) (scales : List ℕ) (sums : List ℤ) (all : List Data) → (scales ≡ []) ⊎ (sums ≡ [])
+    → front ++ map string (sum_texts scales sums) ≡ all → front ≡ all
+sum_texts-spent front scales sums all ended so_far =
+    let none : sum_texts scales sums ≡ [] = ⊎_elim (λ e. ap (λ x. sum_texts x sums) e) (λ e. ap (sum_texts scales) e ∙ sum_texts-nil scales) ended in
+    sym (append-nil front) ∙ rw none at so_far
+
+-- texts are no floats
+items_have_float-texts : (texts : List (List ℕ)) → items_have_float (items_of (map string texts)) ≡ false
+items_have_float-texts [] = refl
+items_have_float-texts (t ∷ ts) = items_have_float-texts ts
+
+-- a list of texts has none
+has_float-texts_data : (texts : List (List ℕ)) → has_float (texts_data texts) ≡ false
+unfolding texts_data
+has_float-texts_data texts = items_have_float-texts texts
+
+-- a row has none
+has_float-row_data : (scales : List ℕ) (row : SumRow) → has_float (row_data scales row) ≡ false
+unfolding row_data
+has_float-row_data scales row = rw (has_float-texts_data, has_float-texts_data)
+
+-- rows have none
+items_have_float-rows : (scales : List ℕ) (rows : List SumRow) → items_have_float (items_of (map (row_data scales) rows)) ≡ false
+items_have_float-rows scales [] = refl
+items_have_float-rows scales (row ∷ rows) = rw (has_float-row_data scales row) (items_have_float-rows scales rows)
+
+-- an answer has none
+has_float-answer_data : (answer : Answer) → has_float (answer_data answer) ≡ false
+unfolding answer_data document_data rows_data
+has_float-answer_data (Document active doc state) = refl
+has_float-answer_data (Balance rows scales) = rw (items_have_float-rows scales rows)
+
+-- the fault of a line has none
+has_float-bad_line : (fault : WordFault) → has_float (refusal_data (BadLine fault)) ≡ false
+unfolding refusal_data refusal_detail word_fault_members
+has_float-bad_line (TooLong bytes) = refl
+has_float-bad_line NotJson = refl
+has_float-bad_line NotObject = refl
+has_float-bad_line UnknownOp = refl
+has_float-bad_line (Missing m) = refl
+has_float-bad_line (UnknownMember name) = refl
+has_float-bad_line (BadMember m) = refl
+has_float-bad_line Memory = refl
+
+-- a refusal has none
+has_float-refusal_data : (refusal : Refusal) → has_float (refusal_data refusal) ≡ false
+unfolding refusal_data refusal_detail
+has_float-refusal_data (BadLine fault) = has_float-bad_line fault
+has_float-refusal_data UnknownClerk = refl
+has_float-refusal_data (BadField field) = refl
+has_float-refusal_data (Limit which count) = refl
+has_float-refusal_data (Rule fault) = refl
+
+-- a reply has none
+pub has_float-reply_data : (reply : Reply) → has_float (reply_data reply) ≡ false
+unfolding reply_data
+has_float-reply_data (Done answer) = rw (has_float-answer_data answer)
+has_float-reply_data (Refused refusal) = rw (has_float-refusal_data refusal)

@@ -1,0 +1,159 @@
+-- The line that a reply is printed as.
+use Rattle.std.specs.Prelude.{ℕ, ℤ, Bool, List, [], ◌∷◌, map, codes}
+use Rattle.serde_json.specs.Data.{Data, boolean, number, unsigned, string, array, object, Members, no_members, member, put}
+use Rattle.serde_json.specs.View.{items_of}
+use Rattle.serde_json.specs.Written.{compact_text}
+use Rattle.reg_base.specs.Numbers.{sum_text}
+use Rattle.reg_base.specs.Points.{point_text}
+use Rattle.reg_base.specs.declared.records.DocState.{DocState}
+use Rattle.reg_base.specs.declared.records.DocState.TheVariants.{Written, Posted, Marked}
+use Rattle.reg_base.specs.declared.records.SumRow.{SumRow}
+use Rattle.reg_base.specs.declared.value.Value.{Value}
+use Rattle.reg_base.specs.declared.value.Value.TheVariants.{Code, Lot}
+use Rattle.desk_words.specs.declared.fault.WordFault.{WordFault}
+use Rattle.desk_words.specs.declared.fault.WordFault.TheVariants.{TooLong, NotJson, NotObject, UnknownOp, Missing, UnknownMember, BadMember, Memory}
+use Rattle.desk_words.specs.declared.reply.Reply.{Reply}
+use Rattle.desk_words.specs.declared.reply.Reply.TheVariants.{Done, Refused}
+use Rattle.desk_words.specs.declared.reply.Answer.{Answer}
+use Rattle.desk_words.specs.declared.reply.Answer.TheVariants.{Document, Balance}
+use Rattle.desk_words.specs.declared.reply.Refusal.{Refusal}
+use Rattle.desk_words.specs.declared.reply.Refusal.TheVariants.{BadLine, UnknownClerk, BadField, Limit as LimitPassed, Rule}
+use Rattle.desk_words.specs.declared.reply.Field.{Field}
+use Rattle.desk_words.specs.declared.reply.Field.TheVariants.{Space, Register, Values, Sums, Kind}
+use Rattle.desk_words.specs.declared.reply.Limit.{Limit}
+use Rattle.desk_words.specs.declared.reply.Limit.TheVariants.{Numbers}
+use Rattle.desk_words.specs.declared.reply.PostFault.{PostFault}
+use Rattle.desk_words.specs.declared.reply.PostFault.TheVariants.{TooManyRecords}
+use Rattle.desk_words.specs.Members.{member_name}
+
+-- a whole number
+abbrev pub whole : ℕ → Data
+whole n = number (unsigned n)
+
+-- the word of a document's state
+abbrev pub state_name : DocState → List ℕ
+state_name Written = codes "written"
+state_name Posted = codes "posted"
+state_name Marked = codes "marked"
+
+-- the word of a field
+abbrev pub field_name : Field → List ℕ
+field_name Space = codes "space"
+field_name Register = codes "register"
+field_name Values = codes "values"
+field_name Sums = codes "sums"
+field_name Kind = codes "kind"
+
+-- the word of what is limited
+abbrev pub limit_name : Limit → List ℕ
+limit_name Numbers = codes "numbers"
+
+-- the number of a fault of a line; want of memory is none and is never told
+abbrev pub word_fault_number : WordFault → ℕ
+word_fault_number (TooLong bytes) = 1
+word_fault_number NotJson = 2
+word_fault_number NotObject = 3
+word_fault_number UnknownOp = 4
+word_fault_number (Missing m) = 5
+word_fault_number (UnknownMember name) = 6
+word_fault_number (BadMember m) = 7
+word_fault_number Memory = 0
+
+-- the number of a fault of posting
+abbrev pub post_fault_number : PostFault → ℕ
+post_fault_number TooManyRecords = 5
+
+-- the number of a refusal
+abbrev pub refusal_number : Refusal → ℕ
+refusal_number (BadLine fault) = 1
+refusal_number UnknownClerk = 2
+refusal_number (BadField field) = 11
+refusal_number (LimitPassed which count) = 14
+refusal_number (Rule fault) = 15
+
+-- the word of a refusal
+abbrev pub refusal_name : Refusal → List ℕ
+refusal_name (BadLine fault) = codes "BadLine"
+refusal_name UnknownClerk = codes "UnknownClerk"
+refusal_name (BadField field) = codes "BadField"
+refusal_name (LimitPassed which count) = codes "Limit"
+refusal_name (Rule fault) = codes "Rule"
+
+-- a value as text: a code as it is, a lot as its point
+abbrev pub value_text : Value → List ℕ
+value_text (Code code) = code
+value_text (Lot point) = point_text point
+
+-- the sums as texts, each with the decimals of the resource in its place
+abbrev pub sum_texts : List ℕ → List ℤ → List (List ℕ)
+sum_texts [] sums = []
+sum_texts (scale ∷ scales) [] = []
+sum_texts (scale ∷ scales) (sum ∷ sums) = sum_text sum scale ∷ sum_texts scales sums
+
+-- a list of texts
+unfoldable pub texts_data : List (List ℕ) → Data
+texts_data texts = array (items_of (map string texts))
+
+-- a row: its group and its sums
+unfoldable pub row_data : List ℕ → SumRow → Data
+row_data scales row =
+    object (member (codes "group") (texts_data (map value_text row.group))
+    (member (codes "sums") (texts_data (sum_texts scales row.sums)) no_members))
+
+-- the rows of a balance
+unfoldable pub rows_data : List ℕ → List SumRow → Data
+rows_data scales rows = array (items_of (map (row_data scales) rows))
+
+-- a document that was written, posted or marked
+unfoldable pub document_data : Bool → ℕ → DocState → Data
+document_data active doc state =
+    object (member (codes "active") (boolean active)
+    (member (codes "doc") (whole doc)
+    (member (codes "state") (string (state_name state)) no_members)))
+
+-- what an accepted request gives
+unfoldable pub answer_data : Answer → Data
+answer_data (Document active doc state) = document_data active doc state
+answer_data (Balance rows scales) =
+    object (member (codes "rows") (rows_data scales rows) no_members)
+
+-- what the fault of a line tells besides its number
+abbrev pub word_fault_detail : WordFault → Members
+word_fault_detail (TooLong bytes) = member (codes "bytes") (whole bytes) no_members
+word_fault_detail (Missing m) = member (codes "member") (string (member_name m)) no_members
+word_fault_detail (UnknownMember name) = member (codes "member") (string name) no_members
+word_fault_detail (BadMember m) = member (codes "member") (string (member_name m)) no_members
+word_fault_detail NotJson = no_members
+word_fault_detail NotObject = no_members
+word_fault_detail UnknownOp = no_members
+word_fault_detail Memory = no_members
+
+-- the fault of a line: its number, and what it tells besides
+unfoldable pub word_fault_members : WordFault → Members
+word_fault_members fault =
+    put (codes "kind") (whole (word_fault_number fault)) (word_fault_detail fault)
+
+-- what a refusal tells besides its number and its name
+unfoldable pub refusal_detail : Refusal → Members
+refusal_detail (BadLine fault) = word_fault_members fault
+refusal_detail UnknownClerk = no_members
+refusal_detail (BadField field) = member (codes "field") (string (field_name field)) no_members
+refusal_detail (LimitPassed which count) =
+    member (codes "number") (whole count)
+    (member (codes "which") (string (limit_name which)) no_members)
+refusal_detail (Rule fault) = member (codes "fault") (whole (post_fault_number fault)) no_members
+
+-- why a request is refused: its number, its name, and what it tells besides
+unfoldable pub refusal_data : Refusal → Data
+refusal_data refusal =
+    object (put (codes "name") (string (refusal_name refusal))
+    (put (codes "code") (whole (refusal_number refusal)) (refusal_detail refusal)))
+
+-- a reply as JSON
+unfoldable pub reply_data : Reply → Data
+reply_data (Done answer) = object (member (codes "ok") (answer_data answer) no_members)
+reply_data (Refused refusal) = object (member (codes "refused") (refusal_data refusal) no_members)
+
+-- the line that a reply is printed as, without a line feed: compact JSON, members in byte order
+unfoldable pub reply_text : Reply → List ℕ
+reply_text reply = compact_text (reply_data reply)

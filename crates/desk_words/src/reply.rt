@@ -1,0 +1,146 @@
+//! What the desk answers to a request.
+ghost use Rattle.std.specs.Prelude.{◌≡◌, OnOk, OnErr, ◌++◌};
+ghost use Rattle.desk_words.specs.ReplyTexts.{field_name, limit_name, post_fault_number, refusal_number, refusal_name, reply_text};
+
+use crate::fault::WordFault;
+use crate::reply_values::{print_value, reply_value};
+use reg_base::{DocState, List, Memory, Scale, SumRow};
+use std::alloc::Global;
+
+/// The one reply to a line.
+#[derive(Drop)]
+pub enum Reply {
+    Done(Answer),
+    /// Nothing has changed.
+    Refused(Refusal),
+}
+
+/// What an accepted request gives.
+#[derive(Drop)]
+pub enum Answer {
+    /// A document was written, posted or marked.
+    Document {
+        active: bool,
+        /// The document's number.
+        doc: u32,
+        state: DocState,
+    },
+    Balance {
+        rows: List<SumRow>,
+        /// How many decimals each resource has: the scales of a row's sums, place by place.
+        scales: List<Scale>,
+    },
+}
+
+/// Why a request is refused.
+#[derive(Drop)]
+pub enum Refusal {
+    /// The line is no request.
+    BadLine(WordFault),
+    /// The configuration has no such clerk.
+    UnknownClerk,
+    /// A field that the configuration does not take.
+    BadField { field: Field },
+    /// A count would pass its limit.
+    Limit { which: Limit, number: u64 },
+    /// The document's records can't be made.
+    Rule(PostFault),
+}
+
+/// A field of a request, as a refusal names it.
+#[derive(Clone, Copy)]
+pub enum Field {
+    Space,
+    Register,
+    Values,
+    Sums,
+    Kind,
+}
+
+/// What is limited.
+#[derive(Clone, Copy)]
+pub enum Limit {
+    /// Document numbers.
+    Numbers,
+}
+
+/// Why the records of a document can't be made.
+#[derive(Clone, Copy)]
+pub enum PostFault {
+    TooManyRecords,
+}
+
+impl Reply {
+    /// Appends the line that the reply is printed as, without a line feed.
+    #[tactic(auto, unfolding(crate::specs::ReplyTexts::reply_text))]
+    pub fn print(&self, alloc: Global, out: &mut Vec<u8>) -> Result<(), Memory>
+        ensures ok { OnOk result (out.new.items ≡ out.old.items ++ reply_text self.now) }
+        ensures err { OnErr result (out.new.items ≡ out.old.items) }
+    {
+        let value = reply_value(alloc, self)?;
+        print_value(alloc, &value, out)
+    }
+}
+
+impl Refusal {
+    /// The number of the refusal.
+    pub fn number(&self) -> u64
+        ensures { result ≡ refusal_number self.now }
+    {
+        match self {
+            Refusal::BadLine(_) => 1,
+            Refusal::UnknownClerk => 2,
+            Refusal::BadField { .. } => 11,
+            Refusal::Limit { .. } => 14,
+            Refusal::Rule(_) => 15,
+        }
+    }
+
+    /// The word of the refusal.
+    pub fn name(&self) -> &'static str
+        ensures { result.now ≡ refusal_name self.now }
+    {
+        match self {
+            Refusal::BadLine(_) => "BadLine",
+            Refusal::UnknownClerk => "UnknownClerk",
+            Refusal::BadField { .. } => "BadField",
+            Refusal::Limit { .. } => "Limit",
+            Refusal::Rule(_) => "Rule",
+        }
+    }
+}
+
+impl Field {
+    /// The field's word in a request.
+    pub fn name(self) -> &'static str
+        ensures { result.now ≡ field_name self }
+    {
+        match self {
+            Field::Space => "space",
+            Field::Register => "register",
+            Field::Values => "values",
+            Field::Sums => "sums",
+            Field::Kind => "kind",
+        }
+    }
+}
+
+impl Limit {
+    /// The word of what is limited.
+    pub fn name(self) -> &'static str
+        ensures { result.now ≡ limit_name self }
+    {
+        match self {
+            Limit::Numbers => "numbers",
+        }
+    }
+}
+
+/// The number of a fault of posting.
+pub fn post_fault_number(fault: PostFault) -> u64
+    ensures { result ≡ post_fault_number fault }
+{
+    match fault {
+        PostFault::TooManyRecords => 5,
+    }
+}

@@ -1,0 +1,213 @@
+//! Replies as JSON.
+ghost use Rattle.std.specs.Prelude.{◌≡◌, ◌++◌, false, map, codes, string_bytes, IfOk, OnOk, OnErr};
+ghost use Rattle.serde_json.specs.Data.{string, object, no_members, member};
+ghost use Rattle.serde_json.specs.View.{view, members_view};
+ghost use Rattle.serde_json.specs.Written.{compact_text, has_float};
+ghost use Rattle.desk_words.specs.ReplyTexts.{whole, state_name as state_name_of, value_text as value_text_of, sum_texts as sum_texts_of, texts_data, row_data, rows_data, document_data, answer_data, word_fault_detail, word_fault_members, refusal_detail, refusal_data, reply_data};
+
+use crate::fault::WordFault;
+use crate::parsed::Object;
+use crate::reply::{Answer, Refusal, Reply, post_fault_number};
+use reg_base::{DocState, Memory, Scale, SumRow, Value, sum_string};
+use serde_json::{Value as Json, json, put};
+use std::alloc::Global;
+
+/// A reply as JSON.
+#[tactic(auto, unfolding(crate::specs::ReplyTexts::reply_data))]
+pub(crate) fn reply_value(alloc: Global, reply: &Reply) -> Result<Json, Memory>
+    ensures { IfOk result (λ v. view v ≡ reply_data reply.now) }
+{
+    match reply {
+        Reply::Done(answer) => one_member(alloc, "ok", answer_value(alloc, answer)?),
+        Reply::Refused(refusal) => one_member(alloc, "refused", refusal_value(alloc, refusal)?),
+    }
+}
+
+/// Appends the compact text of a value.
+pub(crate) fn print_value(alloc: Global, value: &Json, out: &mut Vec<u8>) -> Result<(), Memory>
+    requires { has_float (view value.now) ≡ false }
+    ensures ok { OnOk result (out.new.items ≡ out.old.items ++ compact_text (view value.now)) }
+    ensures err { OnErr result (out.new.items ≡ out.old.items) }
+{
+    let text = value.to_vec(alloc)?;
+    out.extend_from_slice(&text)?;
+    Ok(())
+}
+
+fn one_member(alloc: Global, name: &str, value: Json) -> Result<Json, Memory>
+    ensures { IfOk result (λ v. view v ≡ object (member name.now (view value) no_members)) }
+{
+    let mut members = Object::new(alloc);
+    put(&mut members, alloc, name, value)?;
+    Ok(Json::Object(members))
+}
+
+#[tactic(auto, unfolding(crate::specs::ReplyTexts::answer_data))]
+fn answer_value(alloc: Global, answer: &Answer) -> Result<Json, Memory>
+    ensures { IfOk result (λ v. view v ≡ answer_data answer.now) }
+{
+    match answer {
+        Answer::Document { active, doc, state } => document_value(alloc, *active, *doc, *state),
+        Answer::Balance { rows, scales } => {
+            let rows = rows_value(alloc, rows.as_slice(), scales.as_slice())?;
+            one_member(alloc, "rows", rows)
+        }
+    }
+}
+
+#[tactic(auto, unfolding(crate::specs::ReplyTexts::document_data))]
+fn document_value(
+    alloc: Global,
+    active: bool,
+    doc: u32,
+    state: DocState,
+) -> Result<Json, Memory>
+    ensures { IfOk result (λ v. view v ≡ document_data active doc state) }
+{
+    let state = state_name(state);
+    Ok(json!(in alloc; {"active": active, "doc": doc, "state": state})?)
+}
+
+fn state_name(state: DocState) -> &'static str
+    ensures { result.now ≡ state_name_of state }
+{
+    match state {
+        DocState::Written => "written",
+        DocState::Posted => "posted",
+        DocState::Marked => "marked",
+    }
+}
+
+#[tactic(auto, unfolding(crate::specs::ReplyTexts::rows_data))]
+fn rows_value(alloc: Global, rows: &[SumRow], scales: &[Scale]) -> Result<Json, Memory>
+    ensures { IfOk result (λ v. view v ≡ rows_data scales.now rows.now) }
+{
+    let mut values = Vec::new(alloc);
+    'rows: for row in rows {
+        values.push(row_value(alloc, row, scales)?)?;
+    }
+    Ok(Json::Array(values))
+}
+
+#[tactic(auto, unfolding(crate::specs::ReplyTexts::row_data))]
+fn row_value(alloc: Global, row: &SumRow, scales: &[Scale]) -> Result<Json, Memory>
+    ensures { IfOk result (λ v. view v ≡ row_data scales.now row.now) }
+{
+    let group = group_value(alloc, row.group.as_slice())?;
+    let sums = sums_value(alloc, row.sums.as_slice(), scales)?;
+    let mut members = Object::new(alloc);
+    put(&mut members, alloc, "group", group)?;
+    put(&mut members, alloc, "sums", sums)?;
+    Ok(Json::Object(members))
+}
+
+#[tactic(auto, unfolding(crate::specs::ReplyTexts::texts_data))]
+fn group_value(alloc: Global, group: &[Value]) -> Result<Json, Memory>
+    ensures { IfOk result (λ v. view v ≡ texts_data (map value_text_of group.now)) }
+{
+    let mut texts = Vec::new(alloc);
+    'values: for value in group {
+        texts.push(Json::String(value_text(alloc, value)?))?;
+    }
+    Ok(Json::Array(texts))
+}
+
+fn value_text(alloc: Global, value: &Value) -> Result<String, Memory>
+    ensures { IfOk result (λ text. string_bytes text ≡ value_text_of value.now) }
+{
+    match value {
+        Value::Code(code) => Ok(String::from_str(alloc, code.as_str())?),
+        Value::Lot(point) => Ok(point.to_text(alloc)?),
+    }
+}
+
+#[tactic(auto, unfolding(crate::specs::ReplyTexts::texts_data))]
+fn sums_value(alloc: Global, sums: &[i128], scales: &[Scale]) -> Result<Json, Memory>
+    ensures { IfOk result (λ v. view v ≡ texts_data (sum_texts_of scales.now sums.now)) }
+{
+    let mut texts = Vec::new(alloc);
+    'sums: for (scale, sum) in scales.iter().zip(sums) {
+        texts.push(Json::String(sum_string(alloc, *sum, scale.get())?))?;
+    }
+    Ok(Json::Array(texts))
+}
+
+#[tactic(auto, unfolding(crate::specs::ReplyTexts::refusal_data))]
+fn refusal_value(alloc: Global, refusal: &Refusal) -> Result<Json, Memory>
+    ensures { IfOk result (λ v. view v ≡ refusal_data refusal.now) }
+{
+    let mut members = refusal_detail(alloc, refusal)?;
+    put(&mut members, alloc, "code", Json::from(refusal.number()))?;
+    put(&mut members, alloc, "name", text(alloc, refusal.name())?)?;
+    Ok(Json::Object(members))
+}
+
+/// What a refusal tells besides its number and its name.
+#[tactic(auto, unfolding(crate::specs::ReplyTexts::refusal_detail))]
+fn refusal_detail(alloc: Global, refusal: &Refusal) -> Result<Object, Memory>
+    ensures { IfOk result (λ m. members_view m.entries ≡ refusal_detail refusal.now) }
+{
+    match refusal {
+        Refusal::BadLine(fault) => word_fault_members(alloc, fault),
+        Refusal::UnknownClerk => Ok(Object::new(alloc)),
+        Refusal::BadField { field } => text_member(alloc, "field", field.name()),
+        Refusal::Limit { which, number } => limit_members(alloc, which.name(), *number),
+        Refusal::Rule(fault) => whole_member(alloc, "fault", post_fault_number(*fault)),
+    }
+}
+
+fn limit_members(alloc: Global, which: &str, number: u64) -> Result<Object, Memory>
+    ensures { IfOk result (λ m. members_view m.entries
+        ≡ member (codes "number") (whole number) (member (codes "which") (string which.now) no_members)) }
+{
+    let mut members = whole_member(alloc, "number", number)?;
+    put(&mut members, alloc, "which", text(alloc, which)?)?;
+    Ok(members)
+}
+
+#[tactic(auto, unfolding(crate::specs::ReplyTexts::word_fault_members))]
+fn word_fault_members(alloc: Global, fault: &WordFault) -> Result<Object, Memory>
+    ensures { IfOk result (λ m. members_view m.entries ≡ word_fault_members fault.now) }
+{
+    let mut members = word_fault_detail(alloc, fault)?;
+    put(&mut members, alloc, "kind", Json::from(fault.number()))?;
+    Ok(members)
+}
+
+/// What the fault of a line tells besides its number.
+fn word_fault_detail(alloc: Global, fault: &WordFault) -> Result<Object, Memory>
+    ensures { IfOk result (λ m. members_view m.entries ≡ word_fault_detail fault.now) }
+{
+    match fault {
+        WordFault::TooLong { bytes } => whole_member(alloc, "bytes", *bytes),
+        WordFault::Missing { member } => text_member(alloc, "member", member.name()),
+        WordFault::UnknownMember { name } => text_member(alloc, "member", name.as_str()),
+        WordFault::BadMember { member } => text_member(alloc, "member", member.name()),
+        WordFault::NotJson | WordFault::NotObject | WordFault::UnknownOp | WordFault::Memory => {
+            Ok(Object::new(alloc))
+        }
+    }
+}
+
+fn whole_member(alloc: Global, name: &str, number: u64) -> Result<Object, Memory>
+    ensures { IfOk result (λ m. members_view m.entries ≡ member name.now (whole number) no_members) }
+{
+    let mut members = Object::new(alloc);
+    put(&mut members, alloc, name, Json::from(number))?;
+    Ok(members)
+}
+
+fn text_member(alloc: Global, name: &str, value: &str) -> Result<Object, Memory>
+    ensures { IfOk result (λ m. members_view m.entries
+        ≡ member name.now (string value.now) no_members) }
+{
+    let mut members = Object::new(alloc);
+    put(&mut members, alloc, name, text(alloc, value)?)?;
+    Ok(members)
+}
+
+fn text(alloc: Global, value: &str) -> Result<Json, Memory>
+    ensures { IfOk result (λ v. view v ≡ string value.now) }
+{
+    Ok(Json::String(String::from_str(alloc, value)?))
+}
