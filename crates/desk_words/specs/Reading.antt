@@ -4,12 +4,14 @@ use Rattle.std.specs.Str.Lossy.{utf8_valid_len}
 use Rattle.serde_json.specs.Data.{Data, Members}
 use Rattle.serde_json.specs.Read.{read}
 use Rattle.serde_json.specs.Find.{get_member, as_object, as_str}
+use Rattle.reg_io.specs.declared.line.Line.{Line}
+use Rattle.reg_io.specs.declared.line.Line.TheVariants.{Text, TooLong as TooLong_line}
 use Rattle.reg_base.specs.Results.{◌>>=◌, some_or, none_or}
 use Rattle.reg_base.specs.declared.cut.Cut.{Cut}
 use Rattle.desk_words.specs.declared.fault.Member.{Member}
 use Rattle.desk_words.specs.declared.fault.Member.TheVariants.{Op, Clerk, No, Date, Sets, Register, Cut as Cut_word}
 use Rattle.desk_words.specs.declared.fault.WordFault.{WordFault}
-use Rattle.desk_words.specs.declared.fault.WordFault.TheVariants.{NotJson, NotObject, UnknownOp, Missing, UnknownMember}
+use Rattle.desk_words.specs.declared.fault.WordFault.TheVariants.{TooLong, NotJson, NotObject, UnknownOp, Missing, UnknownMember}
 use Rattle.desk_words.specs.declared.members.Operation.{Operation}
 use Rattle.desk_words.specs.declared.members.Operation.TheVariants.{Manual as Manual_op, Balance as Balance_op}
 use Rattle.desk_words.specs.declared.request.Request.{Request}
@@ -105,3 +107,9 @@ request_of_text bytes = do
   value ← some_or (document bytes) NotJson
   object ← some_or (as_object value) NotObject
   request_in object
+
+-- The request that a line is, or its first fault: of the faults of `WordFault`, the one that stands
+-- there first.
+abbrev pub request : Line → Reads Request
+request (TooLong_line bytes) = Err (TooLong bytes)
+request (Text bytes) = request_of_text bytes

@@ -22,8 +22,8 @@ use Rattle.desk_words.specs.declared.reply.Field.{Field}
 use Rattle.desk_words.specs.declared.reply.Field.TheVariants.{Space, Register, Values, Sums, Kind}
 use Rattle.desk_words.specs.declared.reply.Limit.{Limit}
 use Rattle.desk_words.specs.declared.reply.Limit.TheVariants.{Numbers}
-use Rattle.desk_words.specs.declared.reply.PostFault.{PostFault}
-use Rattle.desk_words.specs.declared.reply.PostFault.TheVariants.{TooManyRecords}
+use Rattle.cfg_model.specs.declared.fault.PostFault.{PostFault}
+use Rattle.cfg_model.specs.declared.fault.PostFault.TheVariants.{TooManyRecords}
 use Rattle.desk_words.specs.Members.{member_name}
 
 -- a whole number

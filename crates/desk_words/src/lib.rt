@@ -3,7 +3,8 @@
 //! Means: `request` in `specs/Reading.antt` says which request a line is, or its first fault;
 //! `reply_text` in `specs/ReplyTexts.antt` is the line that a reply is printed as.
 //!
-//! Stands on: `serde_json` for JSON, and `reg_base` for names, dates, cuts and codes.
+//! Stands on: `serde_json` for JSON, `reg_base` for names, dates, cuts and codes, `reg_io` for
+//! lines, and `cfg_model` for the faults of posting.
 //!
 //! Promises: a line is read exactly as `request` says, and a reply printed exactly as
 //! `reply_text` says; want of memory alone is free.
@@ -21,7 +22,7 @@ mod request;
 mod shapes;
 
 pub use fault::{Member, WordFault};
-pub use reply::{Answer, Field, Limit, PostFault, Refusal, Reply, post_fault_number};
+pub use reply::{Answer, Field, Limit, Refusal, Reply, post_fault_number};
 pub use request::{
     Balance, FilterText, LedgerText, Manual, RecordText, RegisterText, Request, SetText,
 };

@@ -2,7 +2,7 @@
 ghost use Rattle.serde_json.specs.View.{members_view};
 ghost use Rattle.reg_base.specs.Results.{Gives, Says};
 ghost use Rattle.desk_words.specs.declared.fault.WordFault.TheVariants.{Memory, UnknownMember};
-ghost use Rattle.desk_words.specs.Reading.{operation_of, check_present, check_known, name_at, number_at, date_at, sets_at, cut_at, manual_of, balance_of, members_of, request_in, request_of_text};
+ghost use Rattle.desk_words.specs.Reading.{operation_of, check_present, check_known, name_at, number_at, date_at, sets_at, cut_at, manual_of, balance_of, members_of, request_in, request_of_text, request};
 
 use crate::fault::{Member, WordFault};
 use crate::members::{Operation, first_missing, first_unknown};
@@ -10,9 +10,20 @@ use crate::parsed::{Object, document, member};
 use crate::request::{Balance, Manual, Request, SetText};
 use crate::shapes::{cut_of, date_of, name_of, number_of, sets_of, value_at};
 use reg_base::{Cut, Date, List, Name, Text};
+use reg_io::Line;
 use std::alloc::Global;
 
 impl Request {
+    /// The request that a line is, or its first fault.
+    pub fn read(alloc: Global, line: &Line) -> Result<Request, WordFault>
+        ensures { Gives Memory result (request line.now) }
+    {
+        match line {
+            Line::TooLong { bytes } => Err(WordFault::TooLong { bytes: *bytes }),
+            Line::Text { bytes } => Request::read_text(alloc, bytes.as_slice()),
+        }
+    }
+
     /// The request that the text of a line is, however long the line.
     #[tactic(auto, unfolding(crate::specs::Reading::request_of_text))]
     pub fn read_text(alloc: Global, bytes: &[u8]) -> Result<Request, WordFault>

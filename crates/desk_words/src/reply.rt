@@ -4,6 +4,7 @@ ghost use Rattle.desk_words.specs.ReplyTexts.{field_name, limit_name, post_fault
 
 use crate::fault::WordFault;
 use crate::reply_values::{print_value, reply_value};
+use cfg_model::PostFault;
 use reg_base::{DocState, List, Memory, Scale, SumRow};
 use std::alloc::Global;
 
@@ -62,12 +63,6 @@ pub enum Field {
 pub enum Limit {
     /// Document numbers.
     Numbers,
-}
-
-/// Why the records of a document can't be made.
-#[derive(Clone, Copy)]
-pub enum PostFault {
-    TooManyRecords,
 }
 
 impl Reply {
