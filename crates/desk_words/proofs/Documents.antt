@@ -1,5 +1,5 @@
 -- What a line says, where it is UTF-8 and where it is not.
-use Rattle.std.proofs.Common.{◌≡◌, ℕ, List, length, Option, None, Bool, false, cond, eqb, refl, sym, ◌∙◌, ap, eq-eqb, ne_eqb, arith}
+use Rattle.std.proofs.Common.{◌≡◌, ℕ, List, length, None, eq-eqb, ne_eqb, arith}
 use Rattle.std.specs.Str.{IsUtf8, IsValidUpTo}
 use Rattle.std.specs.Str.Lossy.{utf8_valid_len}
 use Rattle.std.proofs.lemmas.Str.{utf8_valid_len-IsUtf8, utf8_valid_len-IsValidUpTo}

@@ -1,3 +1,4 @@
 pub mod Documents
 pub mod Walks
 pub mod ReplyLemmas
+mod WorkedRows

@@ -1,5 +1,5 @@
 -- A walk over a list that has come some way.
-use Rattle.std.proofs.Common.{◌≡◌, List, [], ◌∷◌, ◌++◌, Result, Ok, Err, refl, ap, sym, ◌∙◌, append_assoc, append-nil}
+use Rattle.std.proofs.Common.{List, ◌++◌, Result, Ok}
 use Rattle.reg_base.specs.Results.{◌>>=◌}
 use Rattle.desk_words.specs.declared.fault.WordFault.{WordFault}
 

@@ -1,7 +1,7 @@
 -- Which members an operation has, and what they are called.
-use Rattle.std.specs.Prelude.{ℕ, Bool, true, false, ◌||◌, List, [], ◌∷◌, Option, Some, None, is_some, if◌then◌else◌, codes}
+use Rattle.std.specs.Prelude.{ℕ, Bool, false, ◌||◌, List, [], ◌∷◌, Option, Some, None, is_some, if◌then◌else◌, codes}
 use Rattle.std.specs.Str.{bytes_eq}
-use Rattle.serde_json.specs.Data.{Data, Members, no_members, member}
+use Rattle.serde_json.specs.Data.{Members, no_members, member}
 use Rattle.serde_json.specs.Find.{get_member}
 use Rattle.desk_words.specs.declared.fault.Member.{Member}
 use Rattle.desk_words.specs.declared.fault.Member.TheVariants.{Op, Clerk, No, Date, Sets, Register, Cut}

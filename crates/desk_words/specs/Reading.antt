@@ -77,7 +77,16 @@ manual_of object = do
   nr ← number_at No object
   date ← date_at Date object
   sets ← sets_at Sets object
-  Ok (record { clerk = clerk; no = nr; doc = None; key = None; date = date; sets = sets; comment = None; tx = None })
+  Ok (record {
+    clerk = clerk;
+    no = nr;
+    doc = None;
+    key = None;
+    date = date;
+    sets = sets;
+    comment = None;
+    tx = None;
+  })
 
 -- a question for a balance, its members in order
 unfoldable pub balance_of : Members → Reads Balance

@@ -20,6 +20,8 @@ mod reply;
 mod reply_values;
 mod request;
 mod shapes;
+#[cfg(test)]
+mod tests;
 
 pub use fault::{Member, WordFault};
 pub use reply::{Answer, Field, Limit, Refusal, Reply, post_fault_number};

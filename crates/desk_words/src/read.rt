@@ -90,11 +90,7 @@ fn unknown_member(alloc: Global, name: &str) -> WordFault
 }
 
 #[tactic(auto, unfolding(crate::specs::Reading::members_of))]
-fn members_of(
-    alloc: Global,
-    operation: Operation,
-    object: &Object,
-) -> Result<Request, WordFault>
+fn members_of(alloc: Global, operation: Operation, object: &Object) -> Result<Request, WordFault>
     ensures { Gives Memory result (members_of operation (members_view object.now.entries)) }
 {
     match operation {

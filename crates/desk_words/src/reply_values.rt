@@ -56,12 +56,7 @@ fn answer_value(alloc: Global, answer: &Answer) -> Result<Json, Memory>
 }
 
 #[tactic(auto, unfolding(crate::specs::ReplyTexts::document_data))]
-fn document_value(
-    alloc: Global,
-    active: bool,
-    doc: u32,
-    state: DocState,
-) -> Result<Json, Memory>
+fn document_value(alloc: Global, active: bool, doc: u32, state: DocState) -> Result<Json, Memory>
     ensures { IfOk result (λ v. view v ≡ document_data active doc state) }
 {
     let state = state_name(state);
@@ -158,7 +153,8 @@ fn refusal_detail(alloc: Global, refusal: &Refusal) -> Result<Object, Memory>
 
 fn limit_members(alloc: Global, which: &str, number: u64) -> Result<Object, Memory>
     ensures { IfOk result (λ m. members_view m.entries
-        ≡ member (codes "number") (whole number) (member (codes "which") (string which.now) no_members)) }
+        ≡ member (codes "number") (whole number)
+        (member (codes "which") (string which.now) no_members)) }
 {
     let mut members = whole_member(alloc, "number", number)?;
     put(&mut members, alloc, "which", text(alloc, which)?)?;
@@ -190,7 +186,8 @@ fn word_fault_detail(alloc: Global, fault: &WordFault) -> Result<Object, Memory>
 }
 
 fn whole_member(alloc: Global, name: &str, number: u64) -> Result<Object, Memory>
-    ensures { IfOk result (λ m. members_view m.entries ≡ member name.now (whole number) no_members) }
+    ensures { IfOk result (λ m. members_view m.entries
+        ≡ member name.now (whole number) no_members) }
 {
     let mut members = Object::new(alloc);
     put(&mut members, alloc, name, Json::from(number))?;

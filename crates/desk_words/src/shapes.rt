@@ -202,10 +202,7 @@ fn ledger_record(alloc: Global, within: Member, object: &Object) -> Result<Ledge
     if count(object) != 3 {
         return Err(WordFault::BadMember { member: within });
     }
-    let amount = Text::from_str(
-        alloc,
-        text_of(within, value_at(within, "amount", object)?)?,
-    )?;
+    let amount = Text::from_str(alloc, text_of(within, value_at(within, "amount", object)?)?)?;
     let credit = side_of(alloc, within, value_at(within, "credit", object)?)?;
     let debit = side_of(alloc, within, value_at(within, "debit", object)?)?;
     Ok(LedgerText {
