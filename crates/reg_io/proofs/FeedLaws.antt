@@ -1,7 +1,7 @@
 -- What reads leave, and how what is ahead of a feed moves.
-use Rattle.std.proofs.Common.{◌≡◌, ℕ, ◌+◌, ◌≤◌, true, false, List, [], ◌∷◌, ◌++◌, length, Option, None, Some, refl, sym, ap, ◌∙◌, arith, append_assoc}
-use Rattle.std.specs.Io.KnownBytes.{Consumes, Keeps, IsAtEnd, prepend_known}
-use Rattle.std.proofs.KnownBytes.{Keeps-refl, Keeps-trans, Consumes-trans}
+use Rattle.std.proofs.Common.{◌≡◌, ℕ, false, List, ◌++◌, Option, None, Some, refl, sym, ap, ◌∙◌, arith, append_assoc}
+use Rattle.std.specs.Io.KnownBytes.{Consumes, Keeps, prepend_known}
+use Rattle.std.proofs.KnownBytes.{Keeps-refl, Keeps-trans}
 use Rattle.reg_io.specs.LineStates.{ahead}
 use Rattle.reg_io.specs.Feeds.{IsSound, LeavesRest, ReadsMore, ReadsOn, state_of}
 use Rattle.reg_io.specs.declared.feed.Feed.{Feed}
@@ -12,7 +12,7 @@ LeavesRest-refl taken read_faults write_faults name s = record {
   bytes = refl;
   later = omega arith;
   others = omega arith;
-  same = refl
+  same = refl;
 }
 
 pub LeavesRest-trans : {S : Type 0} (taken : S → Option (List ℕ)) (read_faults write_faults name : S → ℕ) (s t u : S)
@@ -23,7 +23,7 @@ LeavesRest-trans taken read_faults write_faults name s t u p q = record {
   bytes = q.bytes ∙ p.bytes;
   later = omega arith;
   others = omega arith;
-  same = q.same ∙ p.same
+  same = q.same ∙ p.same;
 }
 
 -- bytes that a read moved into the window are ahead as before
@@ -40,15 +40,15 @@ ReadsOn-none left feed sound = record {
   bytes = Keeps-refl (ahead left (state_of feed));
   room = refl;
   ended = λ e. e;
-  sound = sound
+  sound = sound;
 }
 
 pub ReadsOn-more : {S : Type 0} (left : S → Option (List ℕ)) (first mid now : Feed S)
     → ReadsOn left first mid → ReadsMore left mid now → mid.ended ≡ false → ReadsOn left first now
 ReadsOn-more left first mid now on more not_ended = record {
   bytes = Keeps-trans (ahead left (state_of first)) (ahead left (state_of mid)) _ on.bytes
-    (rw more.grows (Keeps-moved mid.window more.got (left mid.source) (left now.source) more.taken));
+      (rw more.grows (Keeps-moved mid.window more.got (left mid.source) (left now.source) more.taken));
   room = more.room ∙ on.room;
   ended = λ _. on.ended not_ended;
-  sound = more.sound
+  sound = more.sound;
 }

@@ -1,5 +1,5 @@
 -- The first line feed of bytes, found in a part of them.
-use Rattle.std.proofs.Common.{◌≡◌, ℕ, ◌+◌, ◌-◌, ◌<◌, ◌≤◌, ◌≢◌, min, List, ◌++◌, length, take, drop, get_or, slice_range, slice_index, refl, sym, ap, subst, ◌∙◌, arith, length-take, length-drop}
+use Rattle.std.proofs.Common.{◌≡◌, ℕ, ◌+◌, ◌-◌, ◌<◌, ◌≤◌, ◌≢◌, min, List, ◌++◌, length, take, drop, slice_range, sym, ap, ◌∙◌, arith, length-take}
 use Rattle.std.proofs.Math.Seq.{take-add}
 use Rattle.std.proofs.lemmas.List.{take-take, take_all, get_or-take, get_or-drop}
 use Rattle.std.proofs.lemmas.List.Elements.{All-append}
@@ -15,7 +15,7 @@ pub HasNoFeed-range : (bytes : List ℕ) (i j : ℕ) → i ≤ j
     → HasNoFeed (take i bytes) → HasNoFeed (slice_range bytes i j) → HasNoFeed (take j bytes)
 HasNoFeed-range bytes i j le p q =
     let e : take j bytes ≡ take i bytes ++ take (j - i) (drop i bytes) =
-      ap (λ n. take n bytes) (omega arith) ∙ take-add i (j - i) bytes in
+    ap (λ n. take n bytes) (omega arith) ∙ take-add i (j - i) bytes in
     rw e (HasNoFeed-append _ _ p q)
 
 -- the place in a range, counted from the front of all bytes
@@ -25,13 +25,15 @@ pub IsFirstFeed-range : (bytes : List ℕ) (i j place : ℕ) → i ≤ j → j �
 IsFirstFeed-range bytes i j place le bound p found =
     let short : place < j - i = omega (arith, simp length-take at found.within) in
     let same : take place (take (j - i) (drop i bytes)) ≡ take place (drop i bytes) =
-      take-take place (j - i) (drop i bytes) (omega arith) in
-    (record {
-      within = omega arith;
-      before = rw take-add (HasNoFeed-append _ _ p (rw same at found.before));
-      here = sym (get_or-drop i bytes place 0) ∙ sym (get_or-take (j - i) (drop i bytes) place 0 short)
-        ∙ found.here
-    }, omega arith)
+    take-take place (j - i) (drop i bytes) (omega arith) in (
+      record {
+        within = omega arith;
+        before = rw take-add (HasNoFeed-append _ _ p (rw same at found.before));
+        here = sym (get_or-drop i bytes place 0) ∙ sym (get_or-take (j - i) (drop i bytes) place 0 short)
+            ∙ found.here;
+      },
+      omega arith,
+    )
 
 -- bytes that have no line feed up to a limit that is their end
 pub HasNoFeed-whole : (bytes : List ℕ) (limit : ℕ) → length bytes ≤ limit
@@ -47,7 +49,7 @@ module _ (bytes window : List ℕ) (room scanned limit : ℕ) (same : bytes ≡ 
   found_line place found =
       let len = ap length same in
       let there = IsFirstFeed-range window scanned limit place (omega arith) (omega arith) front
-        (rw same at found) in
+      (rw same at found) in
       (there.0, omega (arith, there.1))
 
   none_found : HasNoFeed (slice_range bytes scanned limit) → HasNoFeed (take limit window)

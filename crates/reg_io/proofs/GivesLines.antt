@@ -1,13 +1,13 @@
 -- From what a feed took, skipped and showed to what a reader of lines tells.
-use Rattle.std.proofs.Common.{◌≡◌, ℕ, ◌+◌, ◌-◌, ◌≤◌, ◌<◌, ◌≢◌, Bool, true, false, List, [], ◌∷◌, ◌++◌, length, take, Option, None, Some, Result, Ok, Err, refl, sym, ap, subst, ◌∙◌, arith, append_assoc, append-nil, length-append, length-take}
+use Rattle.std.proofs.Common.{◌≡◌, ℕ, ◌+◌, ◌-◌, ◌≤◌, ◌<◌, ◌≢◌, Bool, true, false, List, [], ◌∷◌, ◌++◌, length, take, Option, None, Some, Result, Ok, Err, refl, sym, ap, subst, ◌∙◌, arith, append_assoc, length-append, length-take}
 use Rattle.std.specs.Prelude.{nat_le, if◌then◌else◌}
 use Rattle.std.specs.Io.KnownBytes.{Consumes, Keeps, IsAtEnd, prepend_known}
 use Rattle.std.proofs.KnownBytes.{Consumes-nil, Consumes-trans, Consumes-kept, Keeps-trans}
 use Rattle.std.proofs.Math.Seq.{take-append-add}
 use Rattle.std.proofs.lemmas.Bool.{leb-true}
 use Rattle.reg_io.specs.Counts.{Rose}
-use Rattle.reg_io.specs.Lines.{RawLine, bytes_of, line_feed, line_of, text_of, without_return}
-use Rattle.reg_io.specs.LineStates.{HasNoFeed, HasLineSize, IsEnd, GivesLine, IsLast, KeepsAhead, NextLine, PassesRoom, StopsReading, ahead}
+use Rattle.reg_io.specs.Lines.{RawLine, bytes_of, line_feed, line_of, text_of}
+use Rattle.reg_io.specs.LineStates.{HasNoFeed, HasLineSize, GivesLine, NextLine, PassesRoom, StopsReading, ahead}
 use Rattle.reg_io.specs.Feeds.{EndsSkip, IsPart, ReadsMore, ReadsOn, Skips, TakesRaw, state_of}
 use Rattle.reg_io.specs.declared.feed.Feed.{Feed}
 use Rattle.reg_io.specs.declared.line.Line.{Line}
@@ -59,7 +59,7 @@ GivesLine-raw left old new raw line told takes some = record {
   taken = takes.taken;
   room = takes.room;
   falls = omega (arith, takes.room, bytes_some raw.content raw.ended some);
-  last = λ e. record { some = some e; at_end = (takes.last e).0; told = (takes.last e).1 }
+  last = λ e. record { some = some e; at_end = (takes.last e).0; told = (takes.last e).1 };
 }
 
 Consumes-window : (window : List ℕ) (left : Option (List ℕ)) → Consumes (prepend_known window left) left window
@@ -73,11 +73,11 @@ pub StopsReading-part : {S : Type 0} (left : S → Option (List ℕ)) (old new :
 StopsReading-part left old new skipped faults_before faults_now skips part not_ended rose = record {
   part = skips.bytes ++ new.window;
   taken = Consumes-trans _ (ahead left (state_of new)) (left new.source) skips.bytes new.window skips.taken
-    (Consumes-window new.window (left new.source));
+      (Consumes-window new.window (left new.source));
   one_line = HasNoFeed-append skips.bytes new.window skips.one_line part.one_line;
   within = omega (arith, length-append skips.bytes new.window, skips.len, skips.room, part.within);
   not_ended = not_ended;
-  cause = rose
+  cause = rose;
 }
 
 -- the input is too long behind so many skipped bytes
@@ -87,12 +87,12 @@ pub PassesRoom-part : {S : Type 0} (left : S → Option (List ℕ)) (old new : F
 PassesRoom-part left old new skipped skips past none = record {
   part = skips.bytes ++ new.window;
   taken = Consumes-trans _ (ahead left (state_of new)) (left new.source) skips.bytes new.window skips.taken
-    (Consumes-window new.window (left new.source));
+      (Consumes-window new.window (left new.source));
   one_line =
-    let e : old.room ≡ length skips.bytes + new.room = omega (arith, skips.room, skips.len) in
-    rw (e, take-append-add skips.bytes new.window new.room)
+      let e : old.room ≡ length skips.bytes + new.room = omega (arith, skips.room, skips.len) in
+      rw (e, take-append-add skips.bytes new.window new.room)
       (HasNoFeed-append skips.bytes (take new.room new.window) skips.one_line none);
-  beyond = omega (arith, length-append skips.bytes new.window, skips.len, skips.room, past)
+  beyond = omega (arith, length-append skips.bytes new.window, skips.len, skips.room, past);
 }
 
 -- reads alone skip nothing
@@ -103,7 +103,7 @@ Skips-on left old new on = record {
   len = refl;
   one_line = λ k d h. absurd (omega arith);
   taken = Consumes-kept _ (ahead left (state_of old)) _ [] (Consumes-nil _) on.bytes;
-  room = omega (arith, on.room)
+  room = omega (arith, on.room);
 }
 
 Consumes-passed : (window got : List ℕ) (left now : Option (List ℕ)) → Consumes left now got
@@ -123,15 +123,15 @@ Skips-more left old mid passed new skipped more skips part none room same reads 
   len = omega (arith, length-append skips.bytes mid.window, skips.len);
   one_line = HasNoFeed-append skips.bytes mid.window skips.one_line part.one_line;
   taken = Consumes-trans _ (ahead left (state_of mid)) _ skips.bytes mid.window skips.taken
-    (let here : new.window ≡ [] ++ reads.got = reads.grows ∙ ap (λ l. l ++ reads.got) none in
+      (let here : new.window ≡ [] ++ reads.got = reads.grows ∙ ap (λ l. l ++ reads.got) none in
       rw here (Consumes-passed mid.window reads.got (left mid.source) (left new.source)
-        (subst (λ s. Consumes (left s) (left new.source) reads.got) same reads.taken)));
-  room = omega (arith, skips.room, room, reads.room)
+      (subst (λ s. Consumes (left s) (left new.source) reads.got) same reads.taken)));
+  room = omega (arith, skips.room, room, reads.room);
 }
 
 bytes_of-behind : (skipped content : List ℕ) (ended : Bool)
     → bytes_of (record { content = skipped ++ content; ended = ended })
-      ≡ skipped ++ bytes_of (record { content = content; ended = ended })
+    ≡ skipped ++ bytes_of (record { content = content; ended = ended })
 bytes_of-behind skipped content true = append_assoc skipped content (line_feed ∷ [])
 bytes_of-behind skipped content false = refl
 
@@ -144,11 +144,11 @@ GivesLine-skipped left old mid new skipped raw line skips long takes told =
     let whole : RawLine = record raw { content = skips.bytes ++ raw.content } in
     let len = length-append skips.bytes raw.content in
     let bytes : bytes_of whole ≡ skips.bytes ++ bytes_of raw =
-      bytes_of-behind skips.bytes raw.content raw.ended in
+    bytes_of-behind skips.bytes raw.content raw.ended in
     record {
       raw = whole;
       told = told ∙ ap (λ n. TooLong n) (omega (arith, len, skips.len))
-        ∙ sym (line_of-long whole (omega (arith, len, skips.len)));
+          ∙ sym (line_of-long whole (omega (arith, len, skips.len)));
       size = rw told (omega arith);
       one_line = HasNoFeed-append skips.bytes raw.content skips.one_line takes.one_line;
       taken = rw bytes (Consumes-trans _ (ahead left (state_of mid)) _ skips.bytes (bytes_of raw) skips.taken takes.taken);
@@ -157,8 +157,8 @@ GivesLine-skipped left old mid new skipped raw line skips long takes told =
       last = λ e. record {
         some = λ none. absurd (omega (arith, ap length none, len, skips.len));
         at_end = (takes.last e).0;
-        told = (takes.last e).1
-      }
+        told = (takes.last e).1;
+      };
     }
 
 -- a line that ends behind skipped bytes, or an input that is too long
@@ -191,7 +191,7 @@ NextLine-after left faults old mid new (Ok None) on later end = record {
   before = IsAtEnd-before _ _ on.bytes end.before;
   now = end.now;
   room = end.room ∙ on.room;
-  ended = end.ended
+  ended = end.ended;
 }
 NextLine-after left faults old mid new (Ok (Some line)) on later gives = record {
   raw = gives.raw;
@@ -201,7 +201,7 @@ NextLine-after left faults old mid new (Ok (Some line)) on later gives = record 
   taken = Consumes-after _ (ahead left (state_of mid)) _ _ on.bytes gives.taken;
   room = sym on.room ∙ gives.room;
   falls = omega (arith, on.room, gives.falls);
-  last = gives.last
+  last = gives.last;
 }
 NextLine-after left faults old mid new (Err Read) on later stops = record {
   part = stops.part;
@@ -209,17 +209,17 @@ NextLine-after left faults old mid new (Err Read) on later stops = record {
   one_line = stops.one_line;
   within = omega (arith, on.room, stops.within);
   not_ended = on.ended stops.not_ended;
-  cause = omega (arith, stops.cause)
+  cause = omega (arith, stops.cause);
 }
 NextLine-after left faults old mid new (Err InputTooLong) on later passes = record {
   part = passes.part;
   taken = Consumes-after _ (ahead left (state_of mid)) _ _ on.bytes passes.taken;
   one_line = subst (λ n. HasNoFeed (take n passes.part)) on.room passes.one_line;
-  beyond = omega (arith, on.room, passes.beyond)
+  beyond = omega (arith, on.room, passes.beyond);
 }
 NextLine-after left faults old mid new (Err Memory) on later keeps = record {
   bytes = Keeps-trans _ (ahead left (state_of mid)) _ on.bytes keeps.bytes;
-  room = keeps.room ∙ on.room
+  room = keeps.room ∙ on.room;
 }
 
 -- one round of a skip, by the room that it left
@@ -229,13 +229,13 @@ pub Skips-round : {S : Type 0} (left : S → Option (List ℕ)) (old mid passed 
     → ReadsMore left passed new → Skips left old new (old.room - new.room)
 Skips-round left old mid passed new skips part none room same reads =
     Skips-more left old mid passed new _ _ skips part none room same reads
-      (omega (arith, skips.room, room, reads.room))
+    (omega (arith, skips.room, room, reads.room))
 
 -- an empty window is a part
 IsPart-empty : {S : Type 0} (feed : Feed S) → length feed.window ≡ 0 → IsPart feed
 IsPart-empty feed none = record {
   one_line = λ k d h. absurd (omega (arith, none));
-  within = omega (arith, none)
+  within = omega (arith, none);
 }
 
 -- a read failed in a round of a skip
@@ -246,8 +246,8 @@ pub StopsReading-round : {S : Type 0} (left : S → Option (List ℕ)) (faults :
     → old.ended ≡ false → faults old.source ≤ faults mid.source
     → Rose (faults passed.source) (faults new.source)
     → StopsReading (ahead left (state_of old)) (left new.source) old.room old.ended
-      (faults old.source) (faults new.source)
+    (faults old.source) (faults new.source)
 StopsReading-round left faults old mid passed new skips part none room same reads len not_ended later rose =
     StopsReading-part left old new _ _ _ (Skips-round left old mid passed new skips part none room same reads)
-      (IsPart-empty new (omega (arith, len, ap length none))) not_ended
-      (omega (arith, later, ap faults same, rose))
+    (IsPart-empty new (omega (arith, len, ap length none))) not_ended
+    (omega (arith, later, ap faults same, rose))

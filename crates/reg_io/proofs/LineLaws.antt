@@ -1,9 +1,8 @@
 -- How bytes are cut into lines: a line that has its line feed, one that lacks it, and none.
-use Rattle.std.proofs.Common.{◌≡◌, ℕ, ◌≢◌, Bool, true, false, cond, eqb, List, [], ◌∷◌, ◌++◌, refl, sym, ap, ◌∙◌, arith, append_assoc}
-use Rattle.std.specs.Prelude.{map, filter}
+use Rattle.std.proofs.Common.{◌≡◌, ℕ, ◌≢◌, true, false, List, [], ◌∷◌, ◌++◌, refl, ap, ◌∙◌, arith}
 use Rattle.std.specs.List.{AllByRecursion}
 use Rattle.std.proofs.lemmas.List.Elements.{recursion_from_All}
-use Rattle.reg_io.specs.Lines.{RawLine, line_feed, raw_lines, onto, lines_of, whole_lines_of, line_of}
+use Rattle.reg_io.specs.Lines.{line_feed, raw_lines, onto, whole_lines_of}
 use Rattle.reg_io.specs.LineStates.{HasNoFeed}
 
 -- a byte that is no line feed stands on the front of the lines behind it
@@ -13,11 +12,11 @@ raw_lines-other byte bytes h = grind (arith, h)
 
 raw_lines-feed_by : (content rest : List ℕ) → AllByRecursion (λ byte. byte ≢ line_feed) content
     → raw_lines (content ++ line_feed ∷ rest)
-      ≡ (record { content = content; ended = true }) ∷ raw_lines rest
+    ≡ (record { content = content; ended = true }) ∷ raw_lines rest
 raw_lines-feed_by [] rest h = refl
 raw_lines-feed_by (byte ∷ bytes) rest h =
     raw_lines-other byte (bytes ++ line_feed ∷ rest) h.0
-      ∙ ap (onto byte) (raw_lines-feed_by bytes rest h.1)
+    ∙ ap (onto byte) (raw_lines-feed_by bytes rest h.1)
 
 raw_lines-part_by : (byte : ℕ) (bytes : List ℕ)
     → AllByRecursion (λ byte. byte ≢ line_feed) (byte ∷ bytes)
@@ -25,12 +24,12 @@ raw_lines-part_by : (byte : ℕ) (bytes : List ℕ)
 raw_lines-part_by byte [] h = raw_lines-other byte [] h.0
 raw_lines-part_by byte (next ∷ bytes) h =
     raw_lines-other byte (next ∷ bytes) h.0
-      ∙ ap (onto byte) (raw_lines-part_by next bytes h.1)
+    ∙ ap (onto byte) (raw_lines-part_by next bytes h.1)
 
 -- the first line of bytes, up to their first line feed
 pub raw_lines-feed : (content rest : List ℕ) → HasNoFeed content
     → raw_lines (content ++ line_feed ∷ rest)
-      ≡ (record { content = content; ended = true }) ∷ raw_lines rest
+    ≡ (record { content = content; ended = true }) ∷ raw_lines rest
 raw_lines-feed content rest h =
     raw_lines-feed_by content rest (recursion_from_All (λ byte. byte ≢ line_feed) content h)
 

@@ -18,7 +18,7 @@ state_of feed = record {
   pending = feed.window;
   room = feed.room;
   ended = feed.ended;
-  fault = None
+  fault = None;
 }
 
 -- the source is at its end where it told so

@@ -1,5 +1,5 @@
 -- Files by name, and what reading one answers.
-use Rattle.std.specs.Prelude.{◌≡◌, ℕ, List, [], ◌∷◌, length, nat_le, bytes_eq, if◌then◌else◌, Option, None, Some, Result, Ok, Err, ⊤, IfSome, vec_items, Vec}
+use Rattle.std.specs.Prelude.{◌≡◌, ℕ, List, [], ◌∷◌, length, nat_le, bytes_eq, if◌then◌else◌, Option, None, Some, Result, Ok, Err, ⊤, Vec}
 use Rattle.reg_io.specs.declared.shelf.ShelfFault.{ShelfFault}
 use Rattle.reg_io.specs.declared.shelf.ShelfFault.TheVariants.{Failed, TooLong, Memory}
 

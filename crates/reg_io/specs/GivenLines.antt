@@ -1,5 +1,5 @@
 -- Lines that a reader gave one after another, and what they are of the bytes.
-use Rattle.std.specs.Prelude.{◌≡◌, ℕ, ◌+◌, ◌≤◌, Bool, true, List, ◌++◌, length, Option, OnSome, ◌⊎◌}
+use Rattle.std.specs.Prelude.{◌≡◌, ℕ, ◌+◌, Bool, true, List, ◌++◌, length, Option, OnSome, ◌⊎◌}
 use Rattle.std.specs.Io.KnownBytes.{Consumes, IsAtEnd}
 use Rattle.reg_io.specs.Lines.{lines_of, whole_lines_of}
 use Rattle.reg_io.specs.declared.line.Line.{Line}

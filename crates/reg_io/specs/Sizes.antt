@@ -1,5 +1,5 @@
 -- The length of a disk, where it is told.
-use Rattle.std.specs.Prelude.{◌≡◌, ℕ, ◌≤◌, Option, IfSome}
+use Rattle.std.specs.Prelude.{ℕ, ◌≤◌, Option, IfSome}
 
 -- the place is not behind the end
 abbrev pub IsWithin : ℕ → Option ℕ → Type 0

@@ -1,22 +1,30 @@
 //! The calls of an object in memory that are to fail.
-ghost use Rattle.std.specs.Prelude.{◌≡◌};
+ghost use Rattle.std.specs.Prelude.{◌≡◌, ◌+◌, ◌-◌, ◌^◌, ◌==◌, min};
+ghost use Rattle.std.specs.List.{list_any};
 
 use reg_base::List;
 
 /// Which calls are to fail, by their numbers from 1, and how many were made.
 #[derive(Debug, Drop)]
 pub struct FailingCalls {
-    numbers: List<u64>,
-    made: u64,
+    pub numbers: List<u64>,
+    pub made: u64,
 }
 
 impl FailingCalls {
-    pub fn new(numbers: List<u64>) -> FailingCalls {
+    pub fn new(numbers: List<u64>) -> FailingCalls
+        ensures numbers { result.numbers ≡ numbers }
+        ensures made { result.made ≡ 0 }
+    {
         FailingCalls { numbers, made: 0 }
     }
 
     /// Counts a call, and tells whether it is to fail.
-    pub fn next_fails(&mut self) -> bool {
+    pub fn next_fails(&mut self) -> bool
+        ensures fails { result ≡ list_any (λ number. number == self.new.made) self.old.numbers }
+        ensures made { self.new.made ≡ min (self.old.made + 1) (2 ^ 64 - 1) }
+        ensures same { self.new.numbers ≡ self.old.numbers }
+    {
         self.made = self.made.saturating_add(1);
         self.numbers.as_slice().contains(&self.made)
     }

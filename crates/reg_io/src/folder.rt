@@ -3,10 +3,9 @@ ghost use Rattle.std.specs.Prelude.{◌≡◌, ◌≤◌, IfOk, vec_len};
 
 use crate::shelf::{Shelf, ShelfFault};
 use std::alloc::Global;
-use std::fs;
-use std::io;
 use std::io::Read;
 use std::rt::Files;
+use std::{fs, io};
 
 /// The files that a runtime reaches, each by its path. What they hold is not told.
 #[derive(Drop)]
@@ -17,9 +16,16 @@ pub struct Folder<'a, R> {
 
 impl<'a, R: Files> Folder<'a, R> {
     pub fn new(files: &'a R) -> Folder<'a, R>
-        ensures { result.faults ≡ 0 }
+        ensures { ⟦<Folder<'a, R> as Shelf>⟧.faults result ≡ 0 }
     {
         Folder { files, faults: 0 }
+    }
+
+    /// How many files could not be read.
+    pub fn faults(&self) -> u64
+        ensures { result ≡ ⟦<Folder<'a, R> as Shelf>⟧.faults self.now }
+    {
+        self.faults
     }
 }
 

@@ -1,4 +1,15 @@
-//! The outside of the desk: what it reads, writes and keeps files on.
+//! The outside of the desk: what it reads, writes and keeps files on, and the lines of its input.
+//!
+//! Means: a source is the bytes left, a sink the bytes taken, a shelf its files, where they are
+//! told, and each has a count of faults; `lines_of` in `specs/Lines.antt` cuts bytes into lines.
+//!
+//! Stands on: `reg_base` for lists and texts.
+//!
+//! Promises: counts never fall, and a call fails only where its count rose; `Lines` gives the lines
+//! of the bytes however reads cut them; `write_all` writes all bytes, or their front and a fault.
+//!
+//! Leaves open: what real files and streams hold, what a crash leaves of a disk, when memory is
+//! refused.
 #![tactic(auto)]
 
 mod device;
@@ -16,6 +27,8 @@ mod shelf;
 mod sink;
 mod source;
 mod standard;
+#[cfg(test)]
+mod tests;
 mod told_line;
 mod window;
 

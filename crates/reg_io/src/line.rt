@@ -2,8 +2,8 @@
 ghost use Rattle.std.specs.Prelude.{◌≡◌, IfOk};
 ghost use Rattle.reg_io.specs.declared.line.LineFault.TheVariants.{Memory};
 
-use std::alloc::AllocError;
 use reg_base::List;
+use std::alloc::AllocError;
 
 /// How many bytes a line may have without its line feed.
 pub const MOST_LINE_BYTES: u64 = 1_048_576;

@@ -60,6 +60,15 @@ pub struct FailingShelf {
     pub failing: FailingCalls,
 }
 
+impl FailingShelf {
+    pub fn new(shelf: MemoryShelf, failing: FailingCalls) -> FailingShelf
+        ensures shelf { result.shelf ≡ shelf }
+        ensures failing { result.failing ≡ failing }
+    {
+        FailingShelf { shelf, failing }
+    }
+}
+
 impl Shelf for FailingShelf {
     ghost files = { λ s. Some s.shelf.files };
 

@@ -53,6 +53,15 @@ pub struct FailingSink {
     pub failing: FailingCalls,
 }
 
+impl FailingSink {
+    pub fn new(sink: MemorySink, failing: FailingCalls) -> FailingSink
+        ensures sink { result.sink ≡ sink }
+        ensures failing { result.failing ≡ failing }
+    {
+        FailingSink { sink, failing }
+    }
+}
+
 impl Device for FailingSink {
     ghost taken = { λ s. Some s.sink.bytes.items };
 

@@ -75,6 +75,7 @@ pub struct FailingSource {
 impl FailingSource {
     pub fn new(source: MemorySource, failing: FailingCalls) -> FailingSource
         ensures source { result.source ≡ source }
+        ensures failing { result.failing ≡ failing }
         ensures faults { result.faults ≡ 0 }
     {
         FailingSource {

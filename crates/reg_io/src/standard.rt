@@ -15,10 +15,16 @@ pub struct ReaderSource<R> {
 
 impl<R: Read> ReaderSource<R> {
     pub fn new(reader: R) -> ReaderSource<R>
-        ensures reader { result.reader ≡ reader }
-        ensures faults { result.faults ≡ 0 }
+        ensures { ⟦<ReaderSource<R> as Device>⟧.read_faults result ≡ 0 }
     {
         ReaderSource { reader, faults: 0 }
+    }
+
+    /// How many reads failed.
+    pub fn faults(&self) -> u64
+        ensures { result ≡ ⟦<ReaderSource<R> as Device>⟧.read_faults self.now }
+    {
+        self.faults
     }
 }
 
@@ -48,10 +54,16 @@ pub struct WriterSink<W> {
 
 impl<W: Write> WriterSink<W> {
     pub fn new(writer: W) -> WriterSink<W>
-        ensures writer { result.writer ≡ writer }
-        ensures faults { result.faults ≡ 0 }
+        ensures { ⟦<WriterSink<W> as Device>⟧.write_faults result ≡ 0 }
     {
         WriterSink { writer, faults: 0 }
+    }
+
+    /// How many writes failed or took nothing.
+    pub fn faults(&self) -> u64
+        ensures { result ≡ ⟦<WriterSink<W> as Device>⟧.write_faults self.now }
+    {
+        self.faults
     }
 }
 

@@ -15,7 +15,11 @@ pub(crate) fn told_line(alloc: Global, content: &[u8], ended: bool) -> Result<Li
     if bytes > MOST_LINE_BYTES {
         return Ok(Line::TooLong { bytes });
     }
-    let text = if ended { without_return(content) } else { content };
+    let text = if ended {
+        without_return(content)
+    } else {
+        content
+    };
     let bytes = List::from_slice(alloc, text)?;
     Ok(Line::Text { bytes })
 }

@@ -142,7 +142,12 @@ fn refill<S: Source>(
 }
 
 // Reads once into the part of the buffer from `end` on, at most `most` bytes.
-fn read_at<S: Source>(source: &mut S, buffer: &mut [u8], end: usize, most: usize) -> Result<usize, Failed>
+fn read_at<S: Source>(
+    source: &mut S,
+    buffer: &mut [u8],
+    end: usize,
+    most: usize,
+) -> Result<usize, Failed>
     requires some { 0 < most }
     requires free { end < length buffer.old }
     ensures front { take end buffer.new ≡ take end buffer.old }

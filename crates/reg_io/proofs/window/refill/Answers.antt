@@ -1,4 +1,4 @@
-use Rattle.std.proofs.Common.{◌≡◌, ◌+◌, ◌-◌, ◌<◌, ◌≤◌, ◌++◌, drop, length, take, ap, ◌∙◌, arith, length-take, length-drop}
+use Rattle.std.proofs.Common.{◌+◌, ◌-◌, ◌++◌, drop, take, ap, ◌∙◌, arith, length-take, length-drop}
 use Rattle.reg_io.proofs.Ranges.{slice_range-front, slice_range-grown}
 use Rattle.reg_io.proofs.window.refill.Goals as goal
 
@@ -15,9 +15,9 @@ returns-in-Ok-clause-bytes g c =
     record {
       got = take c.in-Ok.count behind;
       grows = slice_range-grown c.pack.new.buffer c.read_at.new.buffer c.pack.result (c.pack.result + len) c.in-Ok.count
-        (omega arith) (omega arith) e.front ∙ ap (λ l. l ++ take c.in-Ok.count behind) p.same;
+          (omega arith) (omega arith) e.front ∙ ap (λ l. l ++ take c.in-Ok.count behind) p.same;
       len = simp length-take (omega (arith, e.bound));
       within = e.within;
       taken = e.bytes.0;
-      at_end = λ none. e.bytes.1 none (simp length-drop (omega (arith, p.free c.requires.free)))
+      at_end = λ none. e.bytes.1 none (simp length-drop (omega (arith, p.free c.requires.free)));
     }

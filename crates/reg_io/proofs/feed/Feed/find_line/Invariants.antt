@@ -11,7 +11,7 @@ invariant-reads g l = record {
   scanned : HasNoFeed (take l.scanned l.self.window);
   on : ReadsOn g.S.Device.left l.fn.self l.self;
   rest : LeavesRest g.S.Device.taken g.S.Device.read_faults g.S.Device.write_faults g.S.Device.borrow_name
-    l.fn.self.source l.self.source
+      l.fn.self.source l.self.source;
 }
 
 abbrev pub decreases-reads : goal.decreases-reads

@@ -1,5 +1,5 @@
 use Rattle.std.proofs.Common.{◌≡◌, ◌+◌, ◌-◌, ◌<◌, ◌≤◌, false, length}
-use Rattle.reg_io.specs.Feeds.{IsPart, IsSound, LeavesRest, Skips}
+use Rattle.reg_io.specs.Feeds.{IsPart, LeavesRest, Skips}
 use Rattle.reg_io.specs.declared.line.TheConstants.{MOST_LINE_BYTES}
 use Rattle.reg_io.proofs.feed.Feed.skip_line.Given as goal
 
@@ -13,7 +13,7 @@ invariant-parts g l = record {
   long : MOST_LINE_BYTES < l.start - l.self.room + length l.self.window;
   not_ended : l.self.ended ≡ false;
   rest : LeavesRest g.S.Device.taken g.S.Device.read_faults g.S.Device.write_faults g.S.Device.borrow_name
-    l.fn.self.source l.self.source
+      l.fn.self.source l.self.source;
 }
 
 abbrev pub decreases-parts : goal.decreases-parts
