@@ -6,7 +6,8 @@ use Rattle.reg_io.specs.LineStates.{ahead}
 use Rattle.reg_io.specs.Feeds.{IsSound, LeavesRest, ReadsMore, ReadsOn, state_of}
 use Rattle.reg_io.specs.declared.feed.Feed.{Feed}
 
-pub LeavesRest-refl : {S : Type 0} (taken : S → Option (List ℕ)) (read_faults write_faults name : S → ℕ) (s : S)
+pub LeavesRest-refl : {S : Type 0} (taken : S → Option (List ℕ))
+    (read_faults write_faults name : S → ℕ) (s : S)
     → LeavesRest taken read_faults write_faults name s s
 LeavesRest-refl taken read_faults write_faults name s = record {
   bytes = refl;
@@ -15,7 +16,8 @@ LeavesRest-refl taken read_faults write_faults name s = record {
   same = refl;
 }
 
-pub LeavesRest-trans : {S : Type 0} (taken : S → Option (List ℕ)) (read_faults write_faults name : S → ℕ) (s t u : S)
+pub LeavesRest-trans : {S : Type 0} (taken : S → Option (List ℕ))
+    (read_faults write_faults name : S → ℕ) (s t u : S)
     → LeavesRest taken read_faults write_faults name s t
     → LeavesRest taken read_faults write_faults name t u
     → LeavesRest taken read_faults write_faults name s u
@@ -47,7 +49,8 @@ pub ReadsOn-more : {S : Type 0} (left : S → Option (List ℕ)) (first mid now 
     → ReadsOn left first mid → ReadsMore left mid now → mid.ended ≡ false → ReadsOn left first now
 ReadsOn-more left first mid now on more not_ended = record {
   bytes = Keeps-trans (ahead left (state_of first)) (ahead left (state_of mid)) _ on.bytes
-      (rw more.grows (Keeps-moved mid.window more.got (left mid.source) (left now.source) more.taken));
+      (rw more.grows (Keeps-moved mid.window more.got (left mid.source)
+      (left now.source) more.taken));
   room = more.room ∙ on.room;
   ended = λ _. on.ended not_ended;
   sound = more.sound;

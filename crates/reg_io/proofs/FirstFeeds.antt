@@ -29,7 +29,8 @@ IsFirstFeed-range bytes i j place le bound p found =
       record {
         within = omega arith;
         before = rw take-add (HasNoFeed-append _ _ p (rw same at found.before));
-        here = sym (get_or-drop i bytes place 0) ∙ sym (get_or-take (j - i) (drop i bytes) place 0 short)
+        here = sym (get_or-drop i bytes place 0) ∙ sym
+            (get_or-take (j - i) (drop i bytes) place 0 short)
             ∙ found.here;
       },
       omega arith,

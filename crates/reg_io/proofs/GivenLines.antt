@@ -15,7 +15,8 @@ AreLines-append : (bytes more : List ℕ) (lines next : List Line)
     → AreLines bytes lines → AreLines more next → AreLines (bytes ++ more) (lines ++ next)
 AreLines-append bytes more lines next p q = record {
   all = λ rest. rw (append_assoc bytes more rest)
-      (p.all (more ++ rest) ∙ ap (λ l. lines ++ l) (q.all rest) ∙ sym (append_assoc lines next (lines_of rest)));
+      (p.all (more ++ rest) ∙ ap (λ l. lines ++ l) (q.all rest)
+      ∙ sym (append_assoc lines next (lines_of rest)));
   whole = λ rest. rw (append_assoc bytes more rest)
       (p.whole (more ++ rest) ∙ ap (λ l. lines ++ l) (q.whole rest)
       ∙ sym (append_assoc lines next (whole_lines_of rest)));
@@ -57,14 +58,16 @@ GaveLines-none first room ended = record {
 }
 
 -- a whole line, or the last one, behind whole lines
-AreLines-more : (bytes : List ℕ) (lines : List Line) (raw : RawLine) (now : Option (List ℕ)) (ended : Bool)
+AreLines-more : (bytes : List ℕ) (lines : List Line) (raw : RawLine) (now : Option (List ℕ))
+    (ended : Bool)
     → AreLines bytes lines → HasNoFeed raw.content → (raw.ended ≡ false → IsLast raw now ended)
     → AreLines (bytes ++ bytes_of raw) (lines ++ line_of raw ∷ [])
     ⊎ AreLastLines (bytes ++ bytes_of raw) (lines ++ line_of raw ∷ []) now ended
 AreLines-more bytes lines raw now ended are h last = elim raw.ended
     as (λ b. raw.ended ≡ b → AreLines (bytes ++ bytes_of raw) (lines ++ line_of raw ∷ [])
     ⊎ AreLastLines (bytes ++ bytes_of raw) (lines ++ line_of raw ∷ []) now ended) [
-      | true ↦ λ e. inl (AreLines-append bytes (bytes_of raw) lines _ are (AreLines-raw raw.content raw.ended e h))
+      | true ↦ λ e. inl (AreLines-append bytes (bytes_of raw) lines _ are
+          (AreLines-raw raw.content raw.ended e h))
       | false ↦ λ e. inr (record {
         all = are.all (bytes_of raw)
             ∙ ap (λ l. lines ++ l) (lines_of-last raw.content raw.ended e (last e).some h);
@@ -74,32 +77,41 @@ AreLines-more bytes lines raw now ended are h last = elim raw.ended
     ] refl
 
 -- nothing comes behind the end
-nothing_left : (rest taken : List ℕ) (r1 r2 : ℕ) → [] ≡ taken ++ rest → r1 ≡ length taken + r2 → r2 < r1 → ⊥
+nothing_left : (rest taken : List ℕ) (r1 r2 : ℕ) → [] ≡ taken ++ rest → r1 ≡ length taken + r2
+    → r2 < r1 → ⊥
 nothing_left rest [] r1 r2 e room falls = omega arith
 nothing_left rest (byte ∷ taken) r1 r2 e room falls = cc
 
-whole_more : (first now next : Option (List ℕ)) (r1 r2 : ℕ) (ended_now ended : Bool) (bytes : List ℕ) (lines : List Line) (line : Line)
+whole_more : (first now next : Option (List ℕ)) (r1 r2 : ℕ) (ended_now ended : Bool)
+    (bytes : List ℕ) (lines : List Line) (line : Line)
     → OnSome first (AreLines bytes lines ⊎ AreLastLines bytes lines now ended_now)
     → Consumes first now bytes → (step : GivesLine now next r1 r2 ended line)
     → OnSome first (AreLines (bytes ++ bytes_of step.raw) (lines ++ line ∷ [])
     ⊎ AreLastLines (bytes ++ bytes_of step.raw) (lines ++ line ∷ []) next ended)
 whole_more None now next r1 r2 ended_now ended bytes lines line given taken step = tt
-whole_more (Some all) None next r1 r2 ended_now ended bytes lines line given taken step = absurd taken
-whole_more (Some all) (Some mid) None r1 r2 ended_now ended bytes lines line given taken step = absurd step.taken
-whole_more (Some all) (Some mid) (Some rest) r1 r2 ended_now ended bytes lines line given taken step = elim given [
-  | inl are ↦ rw step.told (AreLines-more bytes lines step.raw (Some rest) ended are step.one_line step.last)
-  | inr last ↦ absurd (nothing_left rest (bytes_of step.raw) r1 r2 (sym last.at_end ∙ step.taken) step.room step.falls)
-]
+whole_more (Some all) None next r1 r2 ended_now ended bytes lines line given taken step = absurd
+    taken
+whole_more (Some all) (Some mid) None r1 r2 ended_now ended bytes lines line given taken step =
+    absurd step.taken
+whole_more (Some all) (Some mid) (Some rest) r1 r2 ended_now ended bytes lines line given taken
+    step = elim given [
+      | inl are ↦ rw step.told (AreLines-more bytes lines step.raw
+          (Some rest) ended are step.one_line step.last)
+      | inr last ↦ absurd (nothing_left rest (bytes_of step.raw) r1 r2
+          (sym last.at_end ∙ step.taken) step.room step.falls)
+    ]
 
 -- one more line was given
-pub GaveLines-more : (first now next : Option (List ℕ)) (r0 r1 r2 : ℕ) (ended_now ended : Bool) (lines : List Line) (line : Line)
+pub GaveLines-more : (first now next : Option (List ℕ)) (r0 r1 r2 : ℕ) (ended_now ended : Bool)
+    (lines : List Line) (line : Line)
     → GaveLines first now r0 r1 ended_now lines → GivesLine now next r1 r2 ended line
     → GaveLines first next r0 r2 ended (lines ++ line ∷ [])
 GaveLines-more first now next r0 r1 r2 ended_now ended lines line given step = record {
   bytes = given.bytes ++ bytes_of step.raw;
   taken = Consumes-trans first now next _ _ given.taken step.taken;
   room = omega (arith, given.room, step.room, length-append given.bytes (bytes_of step.raw));
-  whole = whole_more first now next r1 r2 ended_now ended given.bytes lines line given.whole given.taken step;
+  whole = whole_more first now next r1 r2 ended_now ended given.bytes lines line given.whole
+      given.taken step;
 }
 
 -- at the end, the lines are those of all bytes, which lie within the room
@@ -109,9 +121,11 @@ pub lines_of-at_end : (first now : Option (List ℕ)) (r0 r1 : ℕ) (ended : Boo
 lines_of-at_end None now r0 r1 ended lines given end = tt
 lines_of-at_end (Some all) None r0 r1 ended lines given end = absurd given.taken
 lines_of-at_end (Some all) (Some rest) r0 r1 ended lines given end =
-    let e : all ≡ given.bytes = given.taken ∙ ap (λ l. given.bytes ++ l) end ∙ append-nil given.bytes in (
+    let e : all ≡ given.bytes = given.taken ∙ ap (λ l. given.bytes ++ l) end
+    ∙ append-nil given.bytes in (
       ap (λ l. lines_of l) e ∙ elim given.whole [
-        | inl are ↦ ap (λ l. lines_of l) (sym (append-nil given.bytes)) ∙ are.all [] ∙ append-nil lines
+        | inl are ↦ ap (λ l. lines_of l) (sym (append-nil given.bytes)) ∙ are.all []
+            ∙ append-nil lines
         | inr last ↦ last.all
       ],
       omega (arith, ap length e, given.room),
@@ -138,7 +152,8 @@ whole_part : (bytes part : List ℕ) (lines : List Line) → AreLines bytes line
 whole_part bytes part lines are h =
     are.whole part ∙ ap (λ l. lines ++ l) (whole_lines_of-part part h) ∙ append-nil lines
 
-whole_at_fault : (first now : Option (List ℕ)) (ended : Bool) (bytes part : List ℕ) (lines : List Line)
+whole_at_fault : (first now : Option (List ℕ)) (ended : Bool) (bytes part : List ℕ)
+    (lines : List Line)
     → OnSome first (AreLines bytes lines ⊎ AreLastLines bytes lines now ended)
     → ended ≡ false → HasNoFeed part → OnSome first (whole_lines_of (bytes ++ part) ≡ lines)
 whole_at_fault None now ended bytes part lines given not_ended h = tt
@@ -148,15 +163,18 @@ whole_at_fault (Some all) now ended bytes part lines given not_ended h = elim gi
 ]
 
 -- where a read failed, the lines are the whole ones of the bytes taken
-pub whole_lines_of-taken : (first now left : Option (List ℕ)) (r0 r1 faults_before faults_now : ℕ) (ended : Bool) (lines : List Line)
-    → GaveLines first now r0 r1 ended lines → StopsReading now left r1 ended faults_before faults_now
+pub whole_lines_of-taken : (first now left : Option (List ℕ)) (r0 r1 faults_before faults_now : ℕ)
+    (ended : Bool) (lines : List Line)
+    → GaveLines first now r0 r1 ended lines → StopsReading now left r1 ended faults_before
+    faults_now
     → (taken : List ℕ) × Consumes first left taken × (length taken ≤ r0)
     × OnSome first (whole_lines_of taken ≡ lines)
 whole_lines_of-taken first now left r0 r1 faults_before faults_now ended lines given stop = (
   given.bytes ++ stop.part,
   Consumes-trans first now left _ _ given.taken stop.taken,
   omega (arith, given.room, stop.within, length-append given.bytes stop.part),
-  whole_at_fault first now ended given.bytes stop.part lines given.whole stop.not_ended stop.one_line,
+  whole_at_fault first now ended given.bytes stop.part lines given.whole stop.not_ended
+      stop.one_line,
 )
 
 take_within : (bytes part left : List ℕ) (r0 r1 : ℕ) → r0 ≡ length bytes + r1 → r1 < length part
@@ -166,7 +184,8 @@ take_within bytes part left r0 r1 e h = let within : r1 ≤ length part = omega 
     ∙ ap (λ l. bytes ++ l) (take-append-le r1 part left within))
 
 -- where the input is too long, the lines are the whole ones within the room
-pub whole_lines_of-room : (first now left : Option (List ℕ)) (r0 r1 : ℕ) (ended : Bool) (lines : List Line)
+pub whole_lines_of-room : (first now left : Option (List ℕ)) (r0 r1 : ℕ) (ended : Bool)
+    (lines : List Line)
     → GaveLines first now r0 r1 ended lines → PassesRoom now left r1
     → IfSome first (λ all. (r0 < length all) × (whole_lines_of (take r0 all) ≡ lines))
 whole_lines_of-room None now left r0 r1 ended lines given over = tt
@@ -185,7 +204,8 @@ whole_lines_of-room (Some all) (Some mid) (Some rest) r0 r1 ended lines given ov
       ),
       elim given.whole [
         | inl are ↦ ap (λ l. whole_lines_of (take r0 l)) e
-            ∙ ap (λ l. whole_lines_of l) (take_within given.bytes over.part rest r0 r1 given.room over.beyond)
+            ∙ ap (λ l. whole_lines_of l) (take_within given.bytes over.part rest r0 r1 given.room
+            over.beyond)
             ∙ whole_part given.bytes (take r1 over.part) lines are over.one_line
         | inr last ↦ absurd (omega (
           arith,

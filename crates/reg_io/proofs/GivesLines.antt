@@ -48,9 +48,11 @@ bytes_some [] false some = absurd (some refl refl)
 bytes_some (byte ∷ bytes) false some = omega arith
 
 -- a line that was taken and is told
-pub GivesLine-raw : {S : Type 0} (left : S → Option (List ℕ)) (old new : Feed S) (raw : RawLine) (line : Line)
+pub GivesLine-raw : {S : Type 0} (left : S → Option (List ℕ)) (old new : Feed S) (raw : RawLine)
+    (line : Line)
     → line ≡ line_of raw → TakesRaw left old new raw → (raw.ended ≡ false → raw.content ≢ [])
-    → GivesLine (ahead left (state_of old)) (ahead left (state_of new)) old.room new.room new.ended line
+    → GivesLine (ahead left (state_of old)) (ahead left (state_of new)) old.room new.room
+    new.ended line
 GivesLine-raw left old new raw line told takes some = record {
   raw = raw;
   told = told;
@@ -62,17 +64,21 @@ GivesLine-raw left old new raw line told takes some = record {
   last = λ e. record { some = some e; at_end = (takes.last e).0; told = (takes.last e).1 };
 }
 
-Consumes-window : (window : List ℕ) (left : Option (List ℕ)) → Consumes (prepend_known window left) left window
+Consumes-window : (window : List ℕ) (left : Option (List ℕ))
+    → Consumes (prepend_known window left) left window
 Consumes-window window None = tt
 Consumes-window window (Some xs) = refl
 
 -- a read failed behind so many skipped bytes and a part
-pub StopsReading-part : {S : Type 0} (left : S → Option (List ℕ)) (old new : Feed S) (skipped faults_before faults_now : ℕ)
+pub StopsReading-part : {S : Type 0} (left : S → Option (List ℕ)) (old new : Feed S)
+    (skipped faults_before faults_now : ℕ)
     → Skips left old new skipped → IsPart new → old.ended ≡ false → Rose faults_before faults_now
-    → StopsReading (ahead left (state_of old)) (left new.source) old.room old.ended faults_before faults_now
+    → StopsReading (ahead left (state_of old)) (left new.source) old.room old.ended faults_before
+    faults_now
 StopsReading-part left old new skipped faults_before faults_now skips part not_ended rose = record {
   part = skips.bytes ++ new.window;
-  taken = Consumes-trans _ (ahead left (state_of new)) (left new.source) skips.bytes new.window skips.taken
+  taken = Consumes-trans _ (ahead left (state_of new))
+      (left new.source) skips.bytes new.window skips.taken
       (Consumes-window new.window (left new.source));
   one_line = HasNoFeed-append skips.bytes new.window skips.one_line part.one_line;
   within = omega (arith, length-append skips.bytes new.window, skips.len, skips.room, part.within);
@@ -82,11 +88,13 @@ StopsReading-part left old new skipped faults_before faults_now skips part not_e
 
 -- the input is too long behind so many skipped bytes
 pub PassesRoom-part : {S : Type 0} (left : S → Option (List ℕ)) (old new : Feed S) (skipped : ℕ)
-    → Skips left old new skipped → new.room < length new.window → HasNoFeed (take new.room new.window)
+    → Skips left old new skipped → new.room < length new.window
+    → HasNoFeed (take new.room new.window)
     → PassesRoom (ahead left (state_of old)) (left new.source) old.room
 PassesRoom-part left old new skipped skips past none = record {
   part = skips.bytes ++ new.window;
-  taken = Consumes-trans _ (ahead left (state_of new)) (left new.source) skips.bytes new.window skips.taken
+  taken = Consumes-trans _ (ahead left (state_of new))
+      (left new.source) skips.bytes new.window skips.taken
       (Consumes-window new.window (left new.source));
   one_line =
       let e : old.room ≡ length skips.bytes + new.room = omega (arith, skips.room, skips.len) in
@@ -113,7 +121,8 @@ Consumes-passed window got (Some xs) None p = absurd p
 Consumes-passed window got (Some xs) (Some ys) p = ap (λ l. window ++ l) p
 
 -- the window was passed over, and a read put other bytes there
-pub Skips-more : {S : Type 0} (left : S → Option (List ℕ)) (old mid passed new : Feed S) (skipped more : ℕ)
+pub Skips-more : {S : Type 0} (left : S → Option (List ℕ)) (old mid passed new : Feed S)
+    (skipped more : ℕ)
     → Skips left old mid skipped → IsPart mid → passed.window ≡ []
     → mid.room ≡ length mid.window + passed.room → passed.source ≡ mid.source
     → ReadsMore left passed new → more ≡ skipped + length mid.window
@@ -136,10 +145,12 @@ bytes_of-behind skipped content true = append_assoc skipped content (line_feed �
 bytes_of-behind skipped content false = refl
 
 -- a line whose first bytes were skipped is told with all of them
-GivesLine-skipped : {S : Type 0} (left : S → Option (List ℕ)) (old mid new : Feed S) (skipped : ℕ) (raw : RawLine) (line : Line)
+GivesLine-skipped : {S : Type 0} (left : S → Option (List ℕ)) (old mid new : Feed S) (skipped : ℕ)
+    (raw : RawLine) (line : Line)
     → Skips left old mid skipped → MOST_LINE_BYTES < skipped → TakesRaw left mid new raw
     → line ≡ TooLong (skipped + length raw.content)
-    → GivesLine (ahead left (state_of old)) (ahead left (state_of new)) old.room new.room new.ended line
+    → GivesLine (ahead left (state_of old)) (ahead left (state_of new)) old.room new.room
+    new.ended line
 GivesLine-skipped left old mid new skipped raw line skips long takes told =
     let whole : RawLine = record raw { content = skips.bytes ++ raw.content } in
     let len = length-append skips.bytes raw.content in
@@ -151,8 +162,17 @@ GivesLine-skipped left old mid new skipped raw line skips long takes told =
           ∙ sym (line_of-long whole (omega (arith, len, skips.len)));
       size = rw told (omega arith);
       one_line = HasNoFeed-append skips.bytes raw.content skips.one_line takes.one_line;
-      taken = rw bytes (Consumes-trans _ (ahead left (state_of mid)) _ skips.bytes (bytes_of raw) skips.taken takes.taken);
-      room = omega (arith, ap length bytes, length-append skips.bytes (bytes_of raw), skips.len, skips.room, takes.room);
+      taken = rw bytes (Consumes-trans _ (ahead left (state_of mid)) _ skips.bytes
+          (bytes_of raw) skips.taken takes.taken);
+      room = omega (
+        arith,
+        ap length bytes,
+        length-append skips.bytes
+            (bytes_of raw),
+        skips.len,
+        skips.room,
+        takes.room,
+      );
       falls = omega (arith, skips.room, takes.room);
       last = λ e. record {
         some = λ none. absurd (omega (arith, ap length none, len, skips.len));
@@ -162,7 +182,8 @@ GivesLine-skipped left old mid new skipped raw line skips long takes told =
     }
 
 -- a line that ends behind skipped bytes, or an input that is too long
-pub NextLine-skipped : {S : Type 0} (left : S → Option (List ℕ)) (faults : S → ℕ) (old mid new : Feed S) (skipped : ℕ) (result : Result (Option Line) LineFault)
+pub NextLine-skipped : {S : Type 0} (left : S → Option (List ℕ)) (faults : S → ℕ)
+    (old mid new : Feed S) (skipped : ℕ) (result : Result (Option Line) LineFault)
     → Skips left old mid skipped → MOST_LINE_BYTES < skipped → EndsSkip left mid new skipped result
     → NextLine left faults (state_of old) (state_of new) result
 NextLine-skipped left faults old mid new skipped (Ok None) skips long ends = absurd ends
@@ -173,7 +194,8 @@ NextLine-skipped left faults old mid new skipped (Err InputTooLong) skips long e
     rw ends.1 (PassesRoom-part left old mid skipped skips ends.0.0 ends.0.1)
 NextLine-skipped left faults old mid new skipped (Err Memory) skips long ends = absurd ends
 
-Consumes-after : (a b c : Option (List ℕ)) (bytes : List ℕ) → Keeps a b → Consumes b c bytes → Consumes a c bytes
+Consumes-after : (a b c : Option (List ℕ)) (bytes : List ℕ) → Keeps a b → Consumes b c bytes
+    → Consumes a c bytes
 Consumes-after a b c bytes keeps taken =
     Consumes-trans a b c [] bytes (Consumes-kept a a b [] (Consumes-nil a) keeps) taken
 
@@ -183,7 +205,8 @@ IsAtEnd-before (Some xs) None keeps end = absurd keeps
 IsAtEnd-before (Some xs) (Some ys) keeps end = sym keeps ∙ end
 
 -- the same from before the reads
-pub NextLine-after : {S : Type 0} (left : S → Option (List ℕ)) (faults : S → ℕ) (old mid new : Feed S) (result : Result (Option Line) LineFault)
+pub NextLine-after : {S : Type 0} (left : S → Option (List ℕ)) (faults : S → ℕ)
+    (old mid new : Feed S) (result : Result (Option Line) LineFault)
     → ReadsOn left old mid → faults old.source ≤ faults mid.source
     → NextLine left faults (state_of mid) (state_of new) result
     → NextLine left faults (state_of old) (state_of new) result
@@ -239,7 +262,8 @@ IsPart-empty feed none = record {
 }
 
 -- a read failed in a round of a skip
-pub StopsReading-round : {S : Type 0} (left : S → Option (List ℕ)) (faults : S → ℕ) (old mid passed new : Feed S)
+pub StopsReading-round : {S : Type 0} (left : S → Option (List ℕ)) (faults : S → ℕ)
+    (old mid passed new : Feed S)
     → Skips left old mid (old.room - mid.room) → IsPart mid → passed.window ≡ []
     → mid.room ≡ length mid.window + passed.room → passed.source ≡ mid.source
     → ReadsMore left passed new → length new.window ≡ length passed.window
@@ -247,7 +271,9 @@ pub StopsReading-round : {S : Type 0} (left : S → Option (List ℕ)) (faults :
     → Rose (faults passed.source) (faults new.source)
     → StopsReading (ahead left (state_of old)) (left new.source) old.room old.ended
     (faults old.source) (faults new.source)
-StopsReading-round left faults old mid passed new skips part none room same reads len not_ended later rose =
-    StopsReading-part left old new _ _ _ (Skips-round left old mid passed new skips part none room same reads)
+StopsReading-round left faults old mid passed new skips part none room same reads len not_ended
+    later rose =
+    StopsReading-part left old new _ _ _ (Skips-round left old mid passed new skips part none room
+    same reads)
     (IsPart-empty new (omega (arith, len, ap length none))) not_ended
     (omega (arith, later, ap faults same, rose))

@@ -12,7 +12,8 @@ four_lines : lines_of (codes "ab" ++ 10 ∷ 10 ∷ codes "c" ++ 13 ∷ 10 ∷ co
     ≡ Text (codes "ab") ∷ Text [] ∷ Text (codes "c") ∷ Text (codes "d" ++ 13 ∷ []) ∷ []
 four_lines = refl
 
-three_whole_lines : whole_lines_of (codes "ab" ++ 10 ∷ 10 ∷ codes "c" ++ 13 ∷ 10 ∷ codes "d" ++ 13 ∷ [])
+three_whole_lines : whole_lines_of (codes "ab" ++ 10 ∷ 10 ∷ codes "c" ++ 13 ∷ 10 ∷ codes "d" ++ 13
+    ∷ [])
     ≡ Text (codes "ab") ∷ Text [] ∷ Text (codes "c") ∷ []
 three_whole_lines = refl
 
@@ -24,7 +25,8 @@ no_lines : lines_of [] ≡ []
 no_lines = refl
 
 -- of two files of one name the first is read
-first_of_two : file_named (codes "b") ((codes "a", codes "one") ∷ (codes "b", codes "two") ∷ (codes "b", codes "three") ∷ [])
+first_of_two : file_named (codes "b") ((codes "a", codes "one") ∷ (codes "b", codes "two") ∷
+    (codes "b", codes "three") ∷ [])
     ≡ Some (codes "two")
 first_of_two = refl
 

@@ -26,7 +26,8 @@ abbrev pub IsSound : {S : Type 0} → (S → Option (List ℕ)) → Feed S → T
 IsSound left feed = feed.ended ≡ true → IsAtEnd (left feed.source)
 
 -- what reads leave of a source besides the bytes that they take
-pub record LeavesRest {S : Type 0} (taken : S → Option (List ℕ)) (read_faults write_faults name : S → ℕ) (old new : S) : Type 0 where
+pub record LeavesRest {S : Type 0} (taken : S → Option (List ℕ))
+    (read_faults write_faults name : S → ℕ) (old new : S) : Type 0 where
   pub bytes : taken new ≡ taken old
   pub later : read_faults old ≤ read_faults new
   pub others : write_faults old ≤ write_faults new
@@ -67,14 +68,16 @@ Shows feed Ended = IsPart feed × (feed.ended ≡ true)
 Shows feed Open = IsPart feed × (feed.ended ≡ false)
 
 -- a line as it stands was taken from the window
-pub record TakesRaw {S : Type 0} (left : S → Option (List ℕ)) (old new : Feed S) (raw : RawLine) : Type 0 where
+pub record TakesRaw {S : Type 0} (left : S → Option (List ℕ)) (old new : Feed S)
+    (raw : RawLine) : Type 0 where
   pub one_line : HasNoFeed raw.content
   pub taken : Consumes (ahead left (state_of old)) (ahead left (state_of new)) (bytes_of raw)
   pub room : old.room ≡ length (bytes_of raw) + new.room
   pub last : raw.ended ≡ false → IsAtEnd (ahead left (state_of new)) × (new.ended ≡ true)
 
 -- so many bytes without line feed were passed over
-pub record Skips {S : Type 0} (left : S → Option (List ℕ)) (old new : Feed S) (count : ℕ) : Type 0 where
+pub record Skips {S : Type 0} (left : S → Option (List ℕ)) (old new : Feed S)
+    (count : ℕ) : Type 0 where
   pub bytes : List ℕ
   pub len : length bytes ≡ count
   pub one_line : HasNoFeed bytes
@@ -82,7 +85,8 @@ pub record Skips {S : Type 0} (left : S → Option (List ℕ)) (old new : Feed S
   pub room : old.room ≡ count + new.room
 
 -- behind so many skipped bytes the line ends, or the input is too long
-abbrev pub EndsSkip : {S : Type 0} → (S → Option (List ℕ)) → Feed S → Feed S → ℕ → Result (Option Line) LineFault → Type 0
+abbrev pub EndsSkip : {S : Type 0} → (S → Option (List ℕ)) → Feed S → Feed S → ℕ
+    → Result (Option Line) LineFault → Type 0
 EndsSkip left old new skipped (Ok None) = ⊥
 EndsSkip left old new skipped (Ok (Some line)) =
     (raw : RawLine) × TakesRaw left old new raw × (line ≡ TooLong (skipped + length raw.content))

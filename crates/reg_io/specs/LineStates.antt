@@ -38,7 +38,8 @@ pub record IsLast (line : RawLine) (now : Option (List ℕ)) (ended : Bool) : Ty
   pub told : ended ≡ true
 
 -- a line was given: its bytes went from what was ahead, and are no longer in the room
-pub record GivesLine (before now : Option (List ℕ)) (room_before room_now : ℕ) (ended : Bool) (line : Line) : Type 0 where
+pub record GivesLine (before now : Option (List ℕ)) (room_before room_now : ℕ) (ended : Bool)
+    (line : Line) : Type 0 where
   pub raw : RawLine
   pub told : line ≡ line_of raw
   pub size : HasLineSize line
@@ -49,7 +50,8 @@ pub record GivesLine (before now : Option (List ℕ)) (room_before room_now : �
   pub last : raw.ended ≡ false → IsLast raw now ended
 
 -- a read failed: the part of a line that was taken has no line feed and lies within the room
-pub record StopsReading (before left_now : Option (List ℕ)) (room : ℕ) (ended : Bool) (faults_before faults_now : ℕ) : Type 0 where
+pub record StopsReading (before left_now : Option (List ℕ)) (room : ℕ) (ended : Bool)
+    (faults_before faults_now : ℕ) : Type 0 where
   pub part : List ℕ
   pub taken : Consumes before left_now part
   pub one_line : HasNoFeed part
@@ -72,12 +74,14 @@ pub record IsEnd {S : Type 0} (left : S → Option (List ℕ)) (old new : LinesS
   pub ended : new.ended ≡ true
 
 -- all that was ahead is ahead
-pub record KeepsAhead {S : Type 0} (left : S → Option (List ℕ)) (old new : LinesState S) : Type 0 where
+pub record KeepsAhead {S : Type 0} (left : S → Option (List ℕ))
+    (old new : LinesState S) : Type 0 where
   pub bytes : Keeps (ahead left old) (ahead left new)
   pub room : new.room ≡ old.room
 
 -- what the next line is, or why there is none
-abbrev pub NextLine : {S : Type 0} → (S → Option (List ℕ)) → (S → ℕ) → LinesState S → LinesState S → Result (Option Line) LineFault → Type 0
+abbrev pub NextLine : {S : Type 0} → (S → Option (List ℕ)) → (S → ℕ) → LinesState S → LinesState S
+    → Result (Option Line) LineFault → Type 0
 NextLine left faults old new (Ok (Some line)) =
     GivesLine (ahead left old) (ahead left new) old.room new.room new.ended line
 NextLine left faults old new (Ok None) = IsEnd left old new

@@ -158,7 +158,8 @@ impl<S: Source> Feed<S> {
     // Gives the line whose line feed stands behind so many bytes.
     fn give_whole(&mut self, alloc: Global, len: usize) -> Result<Option<Line>, LineFault>
         requires { Shows self.old (Look.Line len) }
-        ensures next { NextLine S.left S.read_faults (state_of self.old) (state_of self.new) result }
+        ensures next { NextLine S.left S.read_faults
+            (state_of self.old) (state_of self.new) result }
         ensures source { self.new.source ≡ self.old.source }
         ensures ended { self.new.ended ≡ self.old.ended }
     {
@@ -171,7 +172,8 @@ impl<S: Source> Feed<S> {
     fn give_rest(&mut self, alloc: Global) -> Result<Option<Line>, LineFault>
         requires sound { IsSound S.left self.old }
         requires shows { Shows self.old Look.Ended }
-        ensures next { NextLine S.left S.read_faults (state_of self.old) (state_of self.new) result }
+        ensures next { NextLine S.left S.read_faults
+            (state_of self.old) (state_of self.new) result }
         ensures source { self.new.source ≡ self.old.source }
         ensures ended { self.new.ended ≡ self.old.ended }
     {
@@ -228,7 +230,8 @@ impl<S: Source> Feed<S> {
         requires sound { IsSound S.left self.old }
         requires shows { Shows self.old Look.Open }
         requires long { MOST_LINE_BYTES < length self.old.window }
-        ensures next { NextLine S.left S.read_faults (state_of self.old) (state_of self.new) result }
+        ensures next { NextLine S.left S.read_faults
+            (state_of self.old) (state_of self.new) result }
         ensures sound { IsSound S.left self.new }
         ensures rest { LeavesRest S.taken S.read_faults S.write_faults S.borrow_name
             self.old.source self.new.source }
@@ -252,7 +255,8 @@ impl<S: Source> Feed<S> {
         requires sound { IsSound S.left self.old }
         requires shows { Shows self.old look }
         requires long { look ≡ Look.Open → MOST_LINE_BYTES < length self.old.window }
-        ensures next { NextLine S.left S.read_faults (state_of self.old) (state_of self.new) result }
+        ensures next { NextLine S.left S.read_faults
+            (state_of self.old) (state_of self.new) result }
         ensures sound { IsSound S.left self.new }
         ensures rest { LeavesRest S.taken S.read_faults S.write_faults S.borrow_name
             self.old.source self.new.source }
@@ -268,7 +272,8 @@ impl<S: Source> Feed<S> {
     /// The next line, or why there is none.
     pub(crate) fn next_line(&mut self, alloc: Global) -> Result<Option<Line>, LineFault>
         requires sound { IsSound S.left self.old }
-        ensures next { NextLine S.left S.read_faults (state_of self.old) (state_of self.new) result }
+        ensures next { NextLine S.left S.read_faults
+            (state_of self.old) (state_of self.new) result }
         ensures sound { IsSound S.left self.new }
         ensures rest { LeavesRest S.taken S.read_faults S.write_faults S.borrow_name
             self.old.source self.new.source }

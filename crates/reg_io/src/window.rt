@@ -74,7 +74,8 @@ impl Window {
     pub(crate) fn fill<S: Source>(&mut self, source: &mut S, most: usize) -> Result<usize, Failed>
         requires some { 0 < most }
         requires free { length self.old < WINDOW_BYTES }
-        ensures bytes { Fills (S.left source.old) (S.left source.new) self.old self.new most result }
+        ensures bytes { Fills (S.left source.old) (S.left source.new)
+            self.old self.new most result }
         ensures cause { HasCause (S.read_faults source.old) (S.read_faults source.new) result }
         ensures others { LeavesSide (S.taken source.old) (S.taken source.new)
             (S.write_faults source.old) (S.write_faults source.new) }

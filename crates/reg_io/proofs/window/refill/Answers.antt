@@ -14,7 +14,8 @@ returns-in-Ok-clause-bytes g c =
     let behind = drop (c.pack.result + len) c.read_at.new.buffer in
     record {
       got = take c.in-Ok.count behind;
-      grows = slice_range-grown c.pack.new.buffer c.read_at.new.buffer c.pack.result (c.pack.result + len) c.in-Ok.count
+      grows = slice_range-grown c.pack.new.buffer c.read_at.new.buffer c.pack.result
+          (c.pack.result + len) c.in-Ok.count
           (omega arith) (omega arith) e.front ∙ ap (λ l. l ++ take c.in-Ok.count behind) p.same;
       len = simp length-take (omega (arith, e.bound));
       within = e.within;

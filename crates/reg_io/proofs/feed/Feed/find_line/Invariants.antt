@@ -10,7 +10,8 @@ invariant-reads g l = record {
   in_room : l.scanned ≤ l.self.room;
   scanned : HasNoFeed (take l.scanned l.self.window);
   on : ReadsOn g.S.Device.left l.fn.self l.self;
-  rest : LeavesRest g.S.Device.taken g.S.Device.read_faults g.S.Device.write_faults g.S.Device.borrow_name
+  rest : LeavesRest g.S.Device.taken g.S.Device.read_faults g.S.Device.write_faults
+      g.S.Device.borrow_name
       l.fn.self.source l.self.source;
 }
 

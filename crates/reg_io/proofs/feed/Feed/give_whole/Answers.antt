@@ -5,7 +5,11 @@ use Rattle.reg_io.proofs.feed.Feed.give_whole.Goals as goal
 
 pub returns-clause-next : goal.returns-clause-next
 returns-clause-next g c =
-    GivesLine-raw g.S.Device.left _ _ (record { content = take c.args.len c.args.self.now.window; ended = true }) _
+    GivesLine-raw g.S.Device.left _ _ (record {
+      content = take c.args.len c.args.self.now.window;
+      ended = true;
+    }) _
     (c.in_ok-line.ensures
-    ∙ ap (λ w. line_of (record { content = take c.args.len w; ended = true })) c.as_slice.ensures.value)
+    ∙ ap (λ w. line_of (record { content = take c.args.len w; ended = true }))
+    c.as_slice.ensures.value)
     c.take_whole.ensures.taken (λ e. absurd cc)

@@ -12,7 +12,8 @@ invariant-parts g l = record {
   some : 0 < length l.self.window;
   long : MOST_LINE_BYTES < l.start - l.self.room + length l.self.window;
   not_ended : l.self.ended ≡ false;
-  rest : LeavesRest g.S.Device.taken g.S.Device.read_faults g.S.Device.write_faults g.S.Device.borrow_name
+  rest : LeavesRest g.S.Device.taken g.S.Device.read_faults g.S.Device.write_faults
+      g.S.Device.borrow_name
       l.fn.self.source l.self.source;
 }
 
