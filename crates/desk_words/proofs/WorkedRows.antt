@@ -18,7 +18,8 @@ use Rattle.desk_words.specs.declared.reply.Reply.TheVariants.{Done}
 use Rattle.desk_words.specs.declared.reply.Answer.TheVariants.{Document, Balance as Rows}
 use Rattle.desk_words.specs.declared.reply.Refusal.TheVariants.{BadLine, Limit as LimitPassed}
 use Rattle.desk_words.specs.declared.reply.Limit.TheVariants.{Numbers}
-use Rattle.desk_words.specs.Shapes.{value_at, object_of, items_of, text_of, name_of, date_of, cut_of, number_of, texts_of, mark_of, register_record, record_of, records_of, set_of, sets_of}
+use Rattle.desk_words.specs.Shapes.{value_at, object_of, items_of, text_of, name_of, date_of, cut_of, number_of, texts_of}
+use Rattle.desk_words.specs.Sets.{mark_of, register_record, record_of, records_of, set_of, sets_of}
 use Rattle.desk_words.specs.Reading.{operation_of, check_present, check_known, cut_at, manual_of, balance_of, members_of, request_in}
 use Rattle.desk_words.specs.ReplyTexts.{texts_data, row_data, rows_data, document_data, answer_data, word_fault_members, refusal_detail, refusal_data, reply_data, reply_text}
 

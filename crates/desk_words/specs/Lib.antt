@@ -1,4 +1,6 @@
 pub mod Members
 pub mod Shapes
+pub mod Sets
 pub mod Reading
+pub mod ReplyWords
 pub mod ReplyTexts

@@ -20,7 +20,8 @@ use Rattle.desk_words.specs.declared.request.Manual.{Manual}
 use Rattle.desk_words.specs.declared.request.Balance.{Balance}
 use Rattle.desk_words.specs.declared.request.SetText.{SetText}
 use Rattle.desk_words.specs.Members.{member_name, operation_named, required, first_missing, first_unknown}
-use Rattle.desk_words.specs.Shapes.{value_at, name_of, number_of, date_of, cut_of, sets_of}
+use Rattle.desk_words.specs.Shapes.{value_at, name_of, number_of, date_of, cut_of}
+use Rattle.desk_words.specs.Sets.{sets_of}
 
 -- what a step of reading gives: a value, or the fault
 abbrev pub Reads : Type 0 → Type 0

@@ -6,7 +6,6 @@ use Rattle.serde_json.specs.Written.{compact_text}
 use Rattle.reg_base.specs.Numbers.{sum_text}
 use Rattle.reg_base.specs.Points.{point_text}
 use Rattle.reg_base.specs.declared.records.DocState.{DocState}
-use Rattle.reg_base.specs.declared.records.DocState.TheVariants.{Written, Posted, Marked}
 use Rattle.reg_base.specs.declared.records.SumRow.{SumRow}
 use Rattle.reg_base.specs.declared.value.Value.{Value}
 use Rattle.reg_base.specs.declared.value.Value.TheVariants.{Code, Lot}
@@ -18,66 +17,12 @@ use Rattle.desk_words.specs.declared.reply.Answer.{Answer}
 use Rattle.desk_words.specs.declared.reply.Answer.TheVariants.{Document, Balance}
 use Rattle.desk_words.specs.declared.reply.Refusal.{Refusal}
 use Rattle.desk_words.specs.declared.reply.Refusal.TheVariants.{BadLine, UnknownClerk, BadField, Limit as LimitPassed, Rule}
-use Rattle.desk_words.specs.declared.reply.Field.{Field}
-use Rattle.desk_words.specs.declared.reply.Field.TheVariants.{Space, Register, Values, Sums, Kind}
-use Rattle.desk_words.specs.declared.reply.Limit.{Limit}
-use Rattle.desk_words.specs.declared.reply.Limit.TheVariants.{Numbers}
-use Rattle.cfg_model.specs.declared.fault.PostFault.{PostFault}
-use Rattle.cfg_model.specs.declared.fault.PostFault.TheVariants.{TooManyRecords}
 use Rattle.desk_words.specs.Members.{member_name}
+use Rattle.desk_words.specs.ReplyWords.{state_name, field_name, limit_name, word_fault_number, post_fault_number, refusal_number, refusal_name}
 
 -- a whole number
 abbrev pub whole : ℕ → Data
 whole n = number (unsigned n)
-
--- the word of a document's state
-abbrev pub state_name : DocState → List ℕ
-state_name Written = codes "written"
-state_name Posted = codes "posted"
-state_name Marked = codes "marked"
-
--- the word of a field
-abbrev pub field_name : Field → List ℕ
-field_name Space = codes "space"
-field_name Register = codes "register"
-field_name Values = codes "values"
-field_name Sums = codes "sums"
-field_name Kind = codes "kind"
-
--- the word of what is limited
-abbrev pub limit_name : Limit → List ℕ
-limit_name Numbers = codes "numbers"
-
--- the number of a fault of a line; want of memory is none and is never told
-abbrev pub word_fault_number : WordFault → ℕ
-word_fault_number (TooLong bytes) = 1
-word_fault_number NotJson = 2
-word_fault_number NotObject = 3
-word_fault_number UnknownOp = 4
-word_fault_number (Missing m) = 5
-word_fault_number (UnknownMember name) = 6
-word_fault_number (BadMember m) = 7
-word_fault_number Memory = 0
-
--- the number of a fault of posting
-abbrev pub post_fault_number : PostFault → ℕ
-post_fault_number TooManyRecords = 5
-
--- the number of a refusal
-abbrev pub refusal_number : Refusal → ℕ
-refusal_number (BadLine fault) = 1
-refusal_number UnknownClerk = 2
-refusal_number (BadField field) = 11
-refusal_number (LimitPassed which count) = 14
-refusal_number (Rule fault) = 15
-
--- the word of a refusal
-abbrev pub refusal_name : Refusal → List ℕ
-refusal_name (BadLine fault) = codes "BadLine"
-refusal_name UnknownClerk = codes "UnknownClerk"
-refusal_name (BadField field) = codes "BadField"
-refusal_name (LimitPassed which count) = codes "Limit"
-refusal_name (Rule fault) = codes "Rule"
 
 -- a value as text: a code as it is, a lot as its point
 abbrev pub value_text : Value → List ℕ

@@ -1,7 +1,7 @@
 //! Why a line is no request.
 ghost use Rattle.std.specs.Prelude.{◌≡◌};
 ghost use Rattle.desk_words.specs.Members.{member_name};
-ghost use Rattle.desk_words.specs.ReplyTexts.{word_fault_number};
+ghost use Rattle.desk_words.specs.ReplyWords.{word_fault_number};
 
 use reg_base::Text;
 use std::alloc::{AllocError, AllocFailed};

@@ -1,6 +1,7 @@
 //! What the desk answers to a request.
 ghost use Rattle.std.specs.Prelude.{◌≡◌, OnOk, OnErr, ◌++◌};
-ghost use Rattle.desk_words.specs.ReplyTexts.{field_name, limit_name, post_fault_number, refusal_number, refusal_name, reply_text};
+ghost use Rattle.desk_words.specs.ReplyTexts.{reply_text};
+ghost use Rattle.desk_words.specs.ReplyWords.{field_name, limit_name, post_fault_number, refusal_number, refusal_name};
 
 use crate::fault::WordFault;
 use crate::reply_values::{print_value, reply_value};

@@ -3,7 +3,8 @@ ghost use Rattle.std.specs.Prelude.{◌≡◌, ◌++◌, false, map, codes, stri
 ghost use Rattle.serde_json.specs.Data.{string, object, no_members, member};
 ghost use Rattle.serde_json.specs.View.{view, members_view};
 ghost use Rattle.serde_json.specs.Written.{compact_text, has_float};
-ghost use Rattle.desk_words.specs.ReplyTexts.{whole, state_name as state_name_of, value_text as value_text_of, sum_texts as sum_texts_of, texts_data, row_data, rows_data, document_data, answer_data, word_fault_detail, word_fault_members, refusal_detail, refusal_data, reply_data};
+ghost use Rattle.desk_words.specs.ReplyTexts.{whole, value_text as value_text_of, sum_texts as sum_texts_of, texts_data, row_data, rows_data, document_data, answer_data, word_fault_detail, word_fault_members, refusal_detail, refusal_data, reply_data};
+ghost use Rattle.desk_words.specs.ReplyWords.{state_name as state_name_of};
 
 use crate::fault::WordFault;
 use crate::parsed::Object;

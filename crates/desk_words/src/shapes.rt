@@ -4,7 +4,8 @@ ghost use Rattle.serde_json.specs.Data.{Items};
 ghost use Rattle.serde_json.specs.View.{view, items_view, members_view};
 ghost use Rattle.reg_base.specs.Results.{some_or, Gives, GivesAs};
 ghost use Rattle.desk_words.specs.declared.fault.WordFault.TheVariants.{Memory};
-ghost use Rattle.desk_words.specs.Shapes.{value_at, object_of, items_of, text_of, name_of, code_of, date_of, cut_of, number_of, each_item, texts_of, codes_of, mark_of, side_of, side_from, register_record, ledger_record, record_of, records_of, set_of, sets_of};
+ghost use Rattle.desk_words.specs.Shapes.{value_at, object_of, items_of, text_of, name_of, code_of, date_of, cut_of, number_of, each_item, texts_of, codes_of};
+ghost use Rattle.desk_words.specs.Sets.{mark_of, side_of, side_from, register_record, ledger_record, record_of, records_of, set_of, sets_of};
 
 use crate::fault::{Member, WordFault};
 use crate::parsed::{Object, count, member};
@@ -141,7 +142,7 @@ fn codes_of(alloc: Global, within: Member, value: &Value) -> Result<Vec<Code>, W
     Ok(codes)
 }
 
-#[tactic(auto, unfolding(crate::specs::Shapes::mark_of))]
+#[tactic(auto, unfolding(crate::specs::Sets::mark_of))]
 fn mark_of(within: Member, value: &Value) -> Result<Mark, WordFault>
     ensures { Gives Memory result (mark_of within (view value.now)) }
 {
@@ -167,7 +168,7 @@ fn side_from(alloc: Global, within: Member, codes: &[Code]) -> Result<Side, Word
 }
 
 /// Null where the side is absent.
-#[tactic(auto, unfolding(crate::specs::Shapes::side_of))]
+#[tactic(auto, unfolding(crate::specs::Sets::side_of))]
 fn side_of(alloc: Global, within: Member, value: &Value) -> Result<Option<Side>, WordFault>
     ensures { Gives Memory result (side_of within (view value.now)) }
 {
@@ -178,7 +179,7 @@ fn side_of(alloc: Global, within: Member, value: &Value) -> Result<Option<Side>,
     Ok(Some(side_from(alloc, within, &codes)?))
 }
 
-#[tactic(auto, unfolding(crate::specs::Shapes::register_record))]
+#[tactic(auto, unfolding(crate::specs::Sets::register_record))]
 fn register_record(
     alloc: Global,
     within: Member,
@@ -195,7 +196,7 @@ fn register_record(
     Ok(RegisterText { mark, sums, values })
 }
 
-#[tactic(auto, unfolding(crate::specs::Shapes::ledger_record))]
+#[tactic(auto, unfolding(crate::specs::Sets::ledger_record))]
 fn ledger_record(alloc: Global, within: Member, object: &Object) -> Result<LedgerText, WordFault>
     ensures { Gives Memory result (ledger_record within (members_view object.now.entries)) }
 {
@@ -213,7 +214,7 @@ fn ledger_record(alloc: Global, within: Member, object: &Object) -> Result<Ledge
 }
 
 /// A record with an amount is one of a ledger.
-#[tactic(auto, unfolding(crate::specs::Shapes::record_of))]
+#[tactic(auto, unfolding(crate::specs::Sets::record_of))]
 fn record_of(alloc: Global, within: Member, value: &Value) -> Result<RecordText, WordFault>
     ensures { Gives Memory result (record_of within (view value.now)) }
 {
@@ -224,7 +225,7 @@ fn record_of(alloc: Global, within: Member, value: &Value) -> Result<RecordText,
     }
 }
 
-#[tactic(auto, unfolding(crate::specs::Shapes::records_of))]
+#[tactic(auto, unfolding(crate::specs::Sets::records_of))]
 fn records_of(alloc: Global, within: Member, value: &Value) -> Result<List<RecordText>, WordFault>
     ensures { Gives Memory result (records_of within (view value.now)) }
 {
@@ -237,7 +238,7 @@ fn records_of(alloc: Global, within: Member, value: &Value) -> Result<List<Recor
     Ok(records)
 }
 
-#[tactic(auto, unfolding(crate::specs::Shapes::set_of))]
+#[tactic(auto, unfolding(crate::specs::Sets::set_of))]
 fn set_of(alloc: Global, within: Member, value: &Value) -> Result<SetText, WordFault>
     ensures { Gives Memory result (set_of within (view value.now)) }
 {
@@ -250,7 +251,7 @@ fn set_of(alloc: Global, within: Member, value: &Value) -> Result<SetText, WordF
     Ok(SetText { space, records })
 }
 
-#[tactic(auto, unfolding(crate::specs::Shapes::sets_of))]
+#[tactic(auto, unfolding(crate::specs::Sets::sets_of))]
 pub(crate) fn sets_of(
     alloc: Global,
     within: Member,

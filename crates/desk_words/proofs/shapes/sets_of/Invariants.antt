@@ -1,6 +1,7 @@
 use Rattle.std.proofs.Common.{◌≡◌, drop}
 use Rattle.serde_json.specs.View.{items_view}
-use Rattle.desk_words.specs.Shapes.{each_item, set_of}
+use Rattle.desk_words.specs.Shapes.{each_item}
+use Rattle.desk_words.specs.Sets.{set_of}
 use Rattle.desk_words.proofs.Walks.{after}
 use Rattle.desk_words.proofs.shapes.sets_of.Given as goal
 
