@@ -26,14 +26,17 @@ one_more : {X F : Type 0} (front : List X) (x : X) (rest : Result (List X) F)
 one_more front x (Ok xs) = ap Ok (sym (append_assoc front (x ∷ []) xs))
 one_more front x (Err fault) = refl
 
-first_of_more : {X : Type 0} (front : List X) (first : Result X CfgFault) (rest : Result (List X) CfgFault)
-    → result_front front (first >>= (λ x. rest >>= (λ xs. Ok (x ∷ xs)))) ≡ (first >>= (λ x. result_front (front ++ x ∷ []) rest))
+first_of_more : {X F : Type 0} (front : List X) (first : Result X F) (rest : Result (List X) F)
+    → result_front front (first >>= (λ x. rest >>= (λ xs. Ok (x ∷ xs))))
+    ≡ (first >>= (λ x. result_front (front ++ x ∷ []) rest))
 first_of_more front (Ok x) rest = one_more front x rest
 first_of_more front (Err fault) rest = refl
 
 -- an entry that is read goes from those that are left to those in front; its fault ends the walk
-pub each_entry-member : {X : Type 0} (read : List ℕ → Data → Result X CfgFault) (front : List X) (name : List ℕ) (d : Data) (ms : Members)
-    → result_front front (each_entry read (member name d ms)) ≡ (read name d >>= (λ x. result_front (front ++ x ∷ []) (each_entry read ms)))
+pub each_entry-member : {X : Type 0} (read : List ℕ → Data → Result X CfgFault)
+    → (front : List X) (name : List ℕ) (d : Data) (ms : Members)
+    → result_front front (each_entry read (member name d ms))
+    ≡ (read name d >>= (λ x. result_front (front ++ x ∷ []) (each_entry read ms)))
 unfolding each_entry
 each_entry-member read front name d ms = first_of_more front (read name d) (each_entry read ms)
 

@@ -10,32 +10,41 @@ use Rattle.cfg_model.specs.Reading.{config_of, read_registers, read_register, re
 use Rattle.cfg_model.specs.Walk.{group_entries, each_entry, entry_keys}
 
 -- a list of texts
-abbrev list_of : List (List ℕ) → Items
-list_of [] = no_items
-list_of (text ∷ more) = item (string text) (list_of more)
+abbrev list_of : List (List ℕ) → Data
+list_of words = array (items words)
+  where
+    items : List (List ℕ) → Items
+    items [] = no_items
+    items (text ∷ more) = item (string text) (items more)
 
--- a table of one entry
-abbrev one : List ℕ → Data → Data
-one key d = table (member key d no_members)
+-- a table of one key
+abbrev one : List ℕ → Data → Members
+one key d = member key d no_members
 
 -- a clerk with these rights
 abbrev with_rights : List (List ℕ) → Data
-with_rights words = one (codes "rights") (array (list_of words))
+with_rights words = table (one (codes "rights") (list_of words))
 
 -- a register of the kind `balance` with these dimensions and resources
 abbrev balances : List (List ℕ) → List (List ℕ) → Data
 balances ds rs =
-    table (member (codes "dimensions") (array (list_of ds))
-    (member (codes "kind") (string (codes "balance"))
-    (member (codes "resources") (array (list_of rs)) no_members)))
+    table (member (codes "dimensions") (list_of ds)
+    (member (codes "kind") (string (codes "balance")) (one (codes "resources") (list_of rs))))
 
--- a file of one register and one clerk
+-- a file of one clerk and one register
 abbrev file : List ℕ → Data → List ℕ → Data → Members
-file register r clerk c =
-    member (codes "clerk") (one clerk c) (member (codes "register") (one register r) no_members)
+file clerk c register r =
+    member (codes "clerk") (table (one clerk c)) (one (codes "register") (table (one register r)))
 
-goods : Data
+-- a register with one dimension and two resources
+abbrev goods : Data
 goods = balances (codes "item:code" ∷ []) (codes "quantity:3" ∷ codes "amount:2" ∷ [])
+
+-- nine dimensions, of which the last stands twice
+abbrev nine : List (List ℕ)
+nine =
+    codes "a:code" ∷ codes "b:code" ∷ codes "c:code" ∷ codes "d:code" ∷ codes "e:code"
+    ∷ codes "f:code" ∷ codes "g:code" ∷ codes "h:code" ∷ codes "a:code" ∷ []
 
 -- a file with no group is the empty configuration
 nothing : config_of no_members
@@ -43,59 +52,70 @@ nothing : config_of no_members
 unfolding config_of read_registers read_clerks group_entries each_entry
 nothing = refl
 
--- one register with one dimension and two resources, and one clerk with two rights
-accepted : config_of (file (codes "goods") goods (codes "anna") (with_rights (codes "read" ∷ codes "manual" ∷ [])))
+-- a clerk with two rights
+anna : read_clerk (codes "anna") (with_rights (codes "read" ∷ codes "manual" ∷ []))
+    ≡ Ok (record { name = codes "anna"; rights = Read ∷ Manual ∷ [] })
+unfolding read_clerk read_rights entry_keys right_of right_word is_name
+anna = refl
+
+-- one clerk and one register
+accepted : config_of (file (codes "anna") (with_rights []) (codes "goods") goods)
     ≡ Ok (record {
       registers = record {
         name = codes "goods";
         balance = true;
         dimensions = record { name = codes "item"; lot = false } ∷ [];
-        resources = record { name = codes "quantity"; scale = 3 } ∷ record { name = codes "amount"; scale = 2 } ∷ [];
+        resources =
+            record { name = codes "quantity"; scale = 3 }
+            ∷ record { name = codes "amount"; scale = 2 } ∷ [];
         split = false;
       } ∷ [];
       ledgers = [];
       kinds = [];
       sequences = [];
-      clerks = record { name = codes "anna"; rights = Read ∷ Manual ∷ [] } ∷ [];
+      clerks = record { name = codes "anna"; rights = [] } ∷ [];
     })
-unfolding goods config_of read_registers read_register read_balance read_dimensions read_resources read_clerks read_clerk read_rights group_entries each_entry entry_keys dimension_of scale_of resource_of right_of right_word is_name
+unfolding config_of read_registers read_register read_balance read_dimensions read_resources
+    read_clerks read_clerk read_rights group_entries each_entry entry_keys
+    dimension_of scale_of resource_of right_of right_word is_name
 accepted = refl
 
 -- a key of the top level that is none
-unknown : config_of (member (codes "x") (integer (pos 1)) no_members) ≡ Err (Unknown (codes "x"))
+unknown : config_of (one (codes "x") (integer (pos 1))) ≡ Err (Unknown (codes "x"))
 unfolding config_of
 unknown = refl
 
--- two faults: the register's name is no name, and the clerk's right is none; registers come first
-register_first : config_of (file (codes "Goods") goods (codes "anna") (with_rights (codes "walk" ∷ [])))
-    ≡ Err (Field (codes "register.Goods"))
-unfolding goods config_of read_registers read_register group_entries each_entry entry_keys is_name
-register_first = refl
-
--- the clerk's fault alone
-then_clerk : config_of (file (codes "goods") goods (codes "anna") (with_rights (codes "walk" ∷ [])))
+-- the clerk has a right that is none
+wrong_right : config_of (file (codes "anna") (with_rights (codes "walk" ∷ [])) (codes "goods") goods)
     ≡ Err (Field (codes "clerk.anna.rights"))
-unfolding goods config_of read_registers read_register read_balance read_dimensions read_resources read_clerks read_clerk read_rights group_entries each_entry entry_keys dimension_of scale_of resource_of right_of right_word is_name
-then_clerk = refl
+unfolding config_of read_registers read_register read_balance read_dimensions read_resources
+    read_clerks read_clerk read_rights group_entries each_entry entry_keys
+    dimension_of scale_of resource_of right_of right_word is_name
+wrong_right = refl
+
+-- the same file with a register whose name is none: registers come first
+wrong_name : config_of (file (codes "anna") (with_rights (codes "walk" ∷ [])) (codes "Goods") goods)
+    ≡ Err (Field (codes "register.Goods"))
+unfolding config_of read_registers read_register group_entries each_entry entry_keys is_name
+wrong_name = refl
 
 -- the scale 7 is none
-scale_seven : read_resources (codes "goods") (member (codes "resources") (array (list_of (codes "quantity:7" ∷ []))) no_members)
+scale_seven : read_resources (codes "goods") (one (codes "resources") (list_of (codes "n:7" ∷ [])))
     ≡ Err (Field (codes "register.goods.resources"))
 unfolding read_resources resource_of scale_of is_name
 scale_seven = refl
 
--- one dimension twice among three is no count; nine of them are, before one that stands twice
-twice : read_dimensions (codes "goods") (member (codes "dimensions") (array (list_of (codes "a:code" ∷ codes "b:code" ∷ codes "a:code" ∷ []))) no_members)
+-- a dimension that stands twice
+twice : read_dimensions (codes "goods")
+    (one (codes "dimensions") (list_of (codes "a:code" ∷ codes "b:code" ∷ codes "a:code" ∷ [])))
     ≡ Err (Twice (codes "a"))
 unfolding read_dimensions dimension_of is_name
 twice = refl
 
-nine : List (List ℕ)
-nine = codes "a:code" ∷ codes "b:code" ∷ codes "c:code" ∷ codes "d:code" ∷ codes "e:code" ∷ codes "f:code" ∷ codes "g:code" ∷ codes "h:code" ∷ codes "a:code" ∷ []
-
-too_many : read_dimensions (codes "goods") (member (codes "dimensions") (array (list_of nine)) no_members)
+-- nine dimensions are too many before one of them stands twice
+too_many : read_dimensions (codes "goods") (one (codes "dimensions") (list_of nine))
     ≡ Err (Count (codes "register.goods.dimensions") 9)
-unfolding nine read_dimensions dimension_of is_name
+unfolding read_dimensions dimension_of is_name
 too_many = refl
 
 -- the text of a fault

@@ -9,7 +9,9 @@ use Rattle.cfg_model.proofs.config.read_document.Goals as goal
 
 document-utf8 : (bytes : List ℕ) → IsUtf8 bytes → document bytes ≡ parse_document bytes
 unfolding document
-document-utf8 bytes utf8 = rw (utf8_valid_len-IsUtf8 bytes utf8, eq-eqb (length bytes) (length bytes) refl) refl
+document-utf8 bytes utf8 =
+    let same = eq-eqb (length bytes) (length bytes) refl in
+    rw (utf8_valid_len-IsUtf8 bytes utf8, same) refl
 
 pub returns-in-Ok-table_from_str : goal.returns-in-Ok-table_from_str
 returns-in-Ok-table_from_str c =

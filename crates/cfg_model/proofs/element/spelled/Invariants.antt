@@ -6,5 +6,6 @@ use Rattle.cfg_model.proofs.element.spelled.Given as goal
 
 abbrev pub invariant-items : goal.invariant-items
 invariant-items g l =
-    with_front l.found.items (spelled g.E.Element.reads (items_view (drop l.item-index l.array.items)))
-    ≡ spelled g.E.Element.reads (items_view l.array.items)
+    let reads = g.E.Element.reads in
+    with_front l.found.items (spelled reads (items_view (drop l.item-index l.array.items)))
+    ≡ spelled reads (items_view l.array.items)
