@@ -101,7 +101,8 @@ group_entries-few group limit None entries e =
     let none : no_members ≡ entries = same_Ok _ _ e in
     subst (λ (ms : Members). member_count ms ≤ limit) none (omega arith)
 group_entries-few group limit (Some d) entries e =
-    let few_of : Members → Result (Unit {0}) CfgFault = λ ms. at_most limit group (member_count ms) in
+    let few_of : Members → Result (Unit {0}) CfgFault =
+    λ ms. at_most limit group (member_count ms) in
     let (found, is_table, more) =
     bind-Ok (some_or (as_table d) (Field group)) (λ ms. few_of ms >>= (λ _. Ok ms)) entries e in
     let (u, few, value) = bind-Ok (few_of found) (λ _. Ok found) entries more in
@@ -184,7 +185,8 @@ read_registers-few top rs e =
     let (entries, opened, more) = bind-Ok (group_entries key register_limit found) _ rs e in
     let few = group_entries-few key register_limit found entries opened in
     let long = each_entry-length read_register entries rs more in
-    let within = each_entry-all read_register IsRegisterWithinLimits read_register-within entries rs more in
+    let within =
+    each_entry-all read_register IsRegisterWithinLimits read_register-within entries rs more in
     (omega (arith, few, long), within)
 
 -- the clerks of a file are not too many

@@ -86,7 +86,8 @@ unfolding config_of
 unknown = refl
 
 -- the clerk has a right that is none
-wrong_right : config_of (file (codes "anna") (with_rights (codes "walk" ∷ [])) (codes "goods") goods)
+wrong_right : let c = with_rights (codes "walk" ∷ []) in
+    config_of (file (codes "anna") c (codes "goods") goods)
     ≡ Err (Field (codes "clerk.anna.rights"))
 unfolding config_of read_registers read_register read_balance read_dimensions read_resources
     read_clerks read_clerk read_rights group_entries each_entry entry_keys
@@ -94,7 +95,8 @@ unfolding config_of read_registers read_register read_balance read_dimensions re
 wrong_right = refl
 
 -- the same file with a register whose name is none: registers come first
-wrong_name : config_of (file (codes "anna") (with_rights (codes "walk" ∷ [])) (codes "Goods") goods)
+wrong_name : let c = with_rights (codes "walk" ∷ []) in
+    config_of (file (codes "anna") c (codes "Goods") goods)
     ≡ Err (Field (codes "register.Goods"))
 unfolding config_of read_registers read_register group_entries each_entry entry_keys is_name
 wrong_name = refl

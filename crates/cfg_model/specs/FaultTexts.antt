@@ -4,11 +4,15 @@ use Rattle.std.specs.Fmt.{decimal}
 use Rattle.cfg_model.specs.declared.fault.CfgFault.{CfgFault}
 use Rattle.cfg_model.specs.declared.fault.CfgFault.TheVariants.{NotToml, Field, Twice, Unknown, Count, Memory}
 
+-- as `5 Count register 33`
+abbrev pub count_text : List ℕ → ℕ → List ℕ
+count_text what number = codes "5 Count " ++ (what ++ (codes " " ++ decimal number))
+
 -- as `2 Field register.stock.kind`; want of memory is told elsewhere and has the number 0
 unfoldable pub fault_text : CfgFault → List ℕ
 fault_text NotToml = codes "1 NotToml"
 fault_text (Field path) = codes "2 Field " ++ path
 fault_text (Twice name) = codes "3 Twice " ++ name
 fault_text (Unknown name) = codes "4 Unknown " ++ name
-fault_text (Count what number) = codes "5 Count " ++ (what ++ (codes " " ++ decimal number))
+fault_text (Count what number) = count_text what number
 fault_text Memory = codes "0 Memory"

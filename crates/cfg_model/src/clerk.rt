@@ -92,7 +92,8 @@ pub(crate) fn read_clerk(alloc: Global, name: &str, value: &Value) -> Result<Cle
 #[tactic(auto, unfolding(crate::specs::Reading::read_rights))]
 fn read_rights(alloc: Global, entry: &Entry) -> Result<List<Right>, CfgFault>
     requires { entry.now.group.now ≡ codes "clerk" }
-    ensures { Gives Memory result (read_rights entry.now.name.now (table_view entry.now.keys.now)) }
+    ensures { let keys = table_view entry.now.keys.now in
+        Gives Memory result (read_rights entry.now.name.now keys) }
 {
     let rights = entry.elements(alloc, "rights")?;
     distinct(alloc, rights)

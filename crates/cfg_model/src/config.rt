@@ -36,7 +36,7 @@ pub struct Config {
 }
 
 impl Config {
-    /// The configuration that the bytes of a file hold, or the first fault on the walk through them.
+    /// The configuration that a file holds, or the first fault on the walk through its bytes.
     #[tactic(auto, unfolding(crate::specs::Reading::read_config))]
     pub fn read(alloc: Global, bytes: &[u8]) -> Result<Config, CfgFault>
         ensures read { Gives Memory result (read_config bytes.now) }

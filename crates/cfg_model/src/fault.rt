@@ -1,9 +1,9 @@
 //! Why a configuration is refused, and why a document is not posted.
 ghost use Rattle.std.specs.Prelude.{◌≡◌, ◌++◌, IfOk, string_bytes};
-ghost use Rattle.cfg_model.specs.FaultTexts.{fault_text};
-ghost use Rattle.cfg_model.specs.declared.fault.CfgFault.TheVariants.{Memory};
+ghost use Rattle.cfg_model.specs.FaultTexts.{fault_text, count_text};
+ghost use Rattle.cfg_model.specs.declared.fault.CfgFault.TheVariants.{Memory as WantOfMemory};
 
-use reg_base::Text;
+use reg_base::{Memory, Text};
 use std::alloc::{AllocError, AllocFailed, Global};
 
 /// The first fault of a configuration file.
@@ -26,32 +26,40 @@ pub enum CfgFault {
 impl CfgFault {
     /// The text that a user reads: number, name and fields, as `2 Field register.stock.kind`.
     #[tactic(auto, unfolding(crate::specs::FaultTexts::fault_text))]
-    pub fn text(&self, alloc: Global) -> Result<String, AllocError>
+    pub fn text(&self, alloc: Global) -> Result<String, Memory>
         ensures { IfOk result (λ t. string_bytes t ≡ fault_text self.now) }
     {
         match self {
-            CfgFault::NotToml => String::from_str(alloc, "1 NotToml"),
-            CfgFault::Field { path } => with_text(alloc, "2 Field ", path),
-            CfgFault::Twice { name } => with_text(alloc, "3 Twice ", name),
-            CfgFault::Unknown { name } => with_text(alloc, "4 Unknown ", name),
-            CfgFault::Count { what, number } => {
-                let what = what.as_str();
-                format!(in alloc; "5 Count {what} {number}")
-            }
-            CfgFault::Memory => String::from_str(alloc, "0 Memory"),
+            CfgFault::NotToml => copied(alloc, "1 NotToml"),
+            CfgFault::Field { path } => joined(alloc, "2 Field ", path.as_str()),
+            CfgFault::Twice { name } => joined(alloc, "3 Twice ", name.as_str()),
+            CfgFault::Unknown { name } => joined(alloc, "4 Unknown ", name.as_str()),
+            CfgFault::Count { what, number } => counted(alloc, what.as_str(), *number),
+            CfgFault::Memory => copied(alloc, "0 Memory"),
         }
     }
 }
 
-fn with_text(alloc: Global, front: &str, text: &Text) -> Result<String, AllocError>
+fn copied(alloc: Global, text: &str) -> Result<String, Memory>
+    ensures { IfOk result (λ t. string_bytes t ≡ text.now) }
+{
+    Ok(String::from_str(alloc, text)?)
+}
+
+fn joined(alloc: Global, front: &str, text: &str) -> Result<String, Memory>
     ensures { IfOk result (λ t. string_bytes t ≡ front.now ++ text.now) }
 {
-    let text = text.as_str();
-    format!(in alloc; "{front}{text}")
+    Ok(format!(in alloc; "{front}{text}")?)
+}
+
+fn counted(alloc: Global, what: &str, number: usize) -> Result<String, Memory>
+    ensures { IfOk result (λ t. string_bytes t ≡ count_text what.now number) }
+{
+    Ok(format!(in alloc; "5 Count {what} {number}")?)
 }
 
 impl From<AllocError> for CfgFault {
-    ghost from_gives = { λ _ e. e ≡ Memory };
+    ghost from_gives = { λ _ e. e ≡ WantOfMemory };
 
     fn from(_refused: AllocError) -> CfgFault {
         CfgFault::Memory
@@ -59,7 +67,7 @@ impl From<AllocError> for CfgFault {
 }
 
 impl<T: Drop> From<AllocFailed<T>> for CfgFault {
-    ghost from_gives = { λ _ e. e ≡ Memory };
+    ghost from_gives = { λ _ e. e ≡ WantOfMemory };
 
     fn from(_refused: AllocFailed<T>) -> CfgFault {
         CfgFault::Memory

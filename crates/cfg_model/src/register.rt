@@ -127,7 +127,8 @@ pub(crate) fn read_register(alloc: Global, name: &str, value: &Value) -> Result<
 #[tactic(auto, unfolding(crate::specs::Reading::read_balance))]
 fn read_balance(alloc: Global, entry: &Entry) -> Result<bool, CfgFault>
     requires { entry.now.group.now ≡ codes "register" }
-    ensures { Gives Memory result (read_balance entry.now.name.now (table_view entry.now.keys.now)) }
+    ensures { let keys = table_view entry.now.keys.now in
+        Gives Memory result (read_balance entry.now.name.now keys) }
 {
     let Some(value) = entry.get("kind") else {
         return Err(entry.wrong(alloc, "kind"));
@@ -141,7 +142,8 @@ fn read_balance(alloc: Global, entry: &Entry) -> Result<bool, CfgFault>
 #[tactic(auto, unfolding(crate::specs::Reading::read_dimensions))]
 fn read_dimensions(alloc: Global, entry: &Entry) -> Result<List<Dimension>, CfgFault>
     requires { entry.now.group.now ≡ codes "register" }
-    ensures { Gives Memory result (read_dimensions entry.now.name.now (table_view entry.now.keys.now)) }
+    ensures { let keys = table_view entry.now.keys.now in
+        Gives Memory result (read_dimensions entry.now.name.now keys) }
 {
     let dimensions = entry.elements(alloc, "dimensions")?;
     entry.at_most(alloc, "dimensions", DIMENSION_LIMIT, dimensions.len())?;
@@ -151,7 +153,8 @@ fn read_dimensions(alloc: Global, entry: &Entry) -> Result<List<Dimension>, CfgF
 #[tactic(auto, unfolding(crate::specs::Reading::read_resources))]
 fn read_resources(alloc: Global, entry: &Entry) -> Result<List<Resource>, CfgFault>
     requires { entry.now.group.now ≡ codes "register" }
-    ensures { Gives Memory result (read_resources entry.now.name.now (table_view entry.now.keys.now)) }
+    ensures { let keys = table_view entry.now.keys.now in
+        Gives Memory result (read_resources entry.now.name.now keys) }
 {
     let resources = entry.elements(alloc, "resources")?;
     if resources.is_empty() {

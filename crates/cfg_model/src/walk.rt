@@ -28,7 +28,8 @@ pub(crate) struct Entry<'a> {
 impl Entry<'_> {
     /// What a key of the entry holds.
     pub(crate) fn get(&self, key: &str) -> Option<&Value>
-        ensures { option_map (λ v. view v.now) result ≡ get_member key.now (table_view self.now.keys.now) }
+        ensures { let keys = table_view self.now.keys.now in
+            option_map (λ v. view v.now) result ≡ get_member key.now keys }
     {
         find(self.keys, key)
     }
@@ -178,7 +179,8 @@ fn find<'a>(table: &'a Table, key: &str) -> Option<&'a Value>
 
 /// The first key of a table that is not known: tables go in byte order of keys.
 fn first_unknown<'a>(table: &'a Table, known: &[&str]) -> Option<&'a str>
-    ensures { option_map (λ k. k.now) result ≡ first_unknown (texts known.now) (table_view table.now) }
+    ensures { let keys = table_view table.now in
+        option_map (λ k. k.now) result ≡ first_unknown (texts known.now) keys }
 {
     'keys: for (key, _) in table.iter() {
         if !is_one_of(known, key.as_str()) {
