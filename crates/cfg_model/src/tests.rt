@@ -1,6 +1,6 @@
 //! Files of a few lines, each with the answer that the walk through its text gives.
 use crate::{CfgFault, Config};
-use reg_base::Name;
+use reg_base::{Memory, Name};
 use std::alloc::{AllocError, Global};
 use std::process::Abort;
 use std::test::Fail;
@@ -117,7 +117,7 @@ const REGISTERS: [(&str, &str, &str, &str); 18] = [
 ];
 
 /// Asks that the file has this fault, or is accepted.
-fn expect(rt: &impl Abort, alloc: Global, file: &str, fault: &str) -> Result<(), AllocError> {
+fn expect(rt: &impl Abort, alloc: Global, file: &str, fault: &str) -> Result<(), Memory> {
     let told = match Config::read(alloc, file.as_bytes()) {
         Ok(_) => String::from_str(alloc, "accepted")?,
         Err(found) => found.text(alloc)?,
