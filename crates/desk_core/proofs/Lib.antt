@@ -1,0 +1,7 @@
+mod WorkedRows
+pub mod PartLemmas
+pub mod ReadingLemmas
+pub mod DeskLemmas
+pub mod LineLemmas
+pub mod LawLemmas
+pub mod RowLemmas

@@ -1,0 +1,9 @@
+use Rattle.std.proofs.Common.{take}
+use Rattle.std.specs.List.{filter, flat_map}
+use Rattle.reg_base.specs.Cuts.{inside}
+use Rattle.reg_base.specs.Records.{booked_by, point_of}
+use Rattle.desk_core.specs.Rows.{rows_of, AddsUp}
+use Rattle.desk_core.proofs.rows.balance_rows.Given as goal
+
+abbrev pub invariant-loop-document : goal.invariant-loop-document
+invariant-loop-document l = AddsUp l.resources (filter (λ b. inside l.cut (point_of b)) (flat_map (booked_by l.register) (take l.document-index l.documents))) (rows_of l.sums.entries)

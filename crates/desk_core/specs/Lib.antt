@@ -1,0 +1,10 @@
+pub mod Answers
+pub mod Desk
+pub mod Invariants
+pub mod Laws
+pub mod Lines
+pub mod Meanings
+pub mod Opened
+pub mod Rows
+pub mod Serial
+pub mod State

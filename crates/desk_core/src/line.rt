@@ -1,0 +1,69 @@
+//! One line in, the bytes of its answer out.
+ghost use Rattle.std.specs.Prelude.{◌≡◌, ◌==◌, ◌||◌, ◌++◌, ◌∷◌, [], IfOk, OnErr};
+ghost use Rattle.std.specs.List.{list_all};
+ghost use Rattle.desk_words.specs.ReplyTexts.{reply_text};
+ghost use Rattle.desk_core.specs.Answers.{is_blank as is_blank_line};
+ghost use Rattle.desk_core.specs.Lines.{AnswersLine, outcome_of_line};
+
+use crate::desk::{Desk, StepEnd};
+use crate::work::Outcome;
+use desk_words::{Refusal, Reply, Request, WordFault};
+use reg_base::Memory;
+use reg_io::Line;
+use std::alloc::Global;
+
+/// Answers a line: the bytes of its reply with a line feed, or nothing for a blank line. Want of
+/// memory leaves the desk as it was.
+pub fn answer_line(alloc: Global, desk: &mut Desk, line: &Line) -> Result<Option<Vec<u8>>, StepEnd>
+    ensures ok { IfOk result (λ out. AnswersLine desk.old line.now out desk.new) }
+    ensures err { OnErr result (desk.new ≡ desk.old) }
+{
+    if is_blank(line) {
+        return Ok(None);
+    }
+    let Outcome { reply, work } = line_outcome(alloc, desk, line)?;
+    // The reply is printed first: behind the change nothing may fail.
+    let text = printed(alloc, &reply)?;
+    desk.take_over(work)?;
+    Ok(Some(text))
+}
+
+/// Whether a line has nothing but spaces and tabs.
+fn is_blank(line: &Line) -> bool
+    ensures { result ≡ is_blank_line line.now }
+{
+    match line {
+        Line::Text { bytes } => are_blanks(bytes.as_slice()),
+        Line::TooLong { .. } => false,
+    }
+}
+
+fn are_blanks(bytes: &[u8]) -> bool
+    ensures { result ≡ list_all (λ b. b == 32 || b == 9) bytes.now }
+{
+    bytes.iter().all(|b| *b == b' ' || *b == b'\t')
+}
+
+/// What a line comes to: what its request does, or the refusal of a line that is none.
+fn line_outcome(alloc: Global, desk: &Desk, line: &Line) -> Result<Outcome, Memory>
+    ensures { IfOk result (λ outcome. outcome ≡ outcome_of_line desk.now line.now) }
+{
+    match Request::read(alloc, line) {
+        Ok(request) => desk.outcome(alloc, &request),
+        Err(WordFault::Memory) => Err(Memory),
+        Err(fault) => Ok(Outcome {
+            reply: Reply::Refused(Refusal::BadLine(fault)),
+            work: None,
+        }),
+    }
+}
+
+/// The text of a reply with a line feed.
+fn printed(alloc: Global, reply: &Reply) -> Result<Vec<u8>, Memory>
+    ensures { IfOk result (λ text. text.items ≡ reply_text reply.now ++ 10 ∷ []) }
+{
+    let mut text = Vec::new(alloc);
+    reply.print(alloc, &mut text)?;
+    text.push(b'\n')?;
+    Ok(text)
+}

@@ -1,0 +1,58 @@
+//! The parts of a record: each text is read for the dimension or resource of its place.
+ghost use Rattle.std.specs.Prelude.{◌≡◌, List, ℕ, Option, IfOk};
+ghost use Rattle.desk_core.specs.Meanings.{read_value, read_amount, read_each};
+
+use cfg_model::{Dimension, Resource};
+use reg_base::{Code, List, Memory, Num, Point, Text, Value};
+use std::alloc::Global;
+
+/// A dimension or a resource, for which a text is read.
+pub(crate) trait Part<X> {
+    ghost reads: { Self → List ℕ → Option X };
+
+    fn read(&self, text: &str) -> Option<X>
+        ensures { result ≡ reads self.now text.now };
+}
+
+impl Part<Value> for Dimension {
+    ghost reads = { read_value };
+
+    fn read(&self, text: &str) -> Option<Value> {
+        if self.lot {
+            let point = Point::parse(text).ok()?;
+            return Some(Value::Lot(point));
+        }
+        let code = Code::parse(text)?;
+        Some(Value::Code(code))
+    }
+}
+
+impl Part<i64> for Resource {
+    ghost reads = { read_amount };
+
+    fn read(&self, text: &str) -> Option<i64> {
+        let num = Num::parse(text, self.scale.get()).ok()?;
+        Some(num.units)
+    }
+}
+
+/// What the texts spell, where there is one for each part and all are read.
+pub(crate) fn read_each<X: Drop, P: Part<X>>(
+    alloc: Global,
+    parts: &[P],
+    texts: &[Text],
+) -> Result<Option<List<X>>, Memory>
+    ensures { IfOk result (λ spelt. spelt ≡ read_each P.reads parts.now texts.now) }
+{
+    if parts.len() != texts.len() {
+        return Ok(None);
+    }
+    let mut spelt = Vec::new(alloc);
+    'parts: for (index, part) in parts.iter().enumerate() {
+        let Some(x) = part.read(texts[index].as_str()) else {
+            return Ok(None);
+        };
+        spelt.push(x)?;
+    }
+    Ok(Some(List::from_vec(spelt)))
+}
