@@ -1,0 +1,20 @@
+//! regdesk: a posting desk for accumulation registers.
+//!
+//! Means: the output is a function of the configuration and the bytes of the input: the answers to
+//! its lines, one after another; `specs/Runs.antt` says it for each way in which a run ends.
+//!
+//! Stands on: `desk_core` for what a line is answered, `reg_io` for the outside, `cfg_model` for
+//! the configuration.
+//!
+//! Promises: each status has its cause, and what was written before it.
+//!
+//! Leaves open: when memory is refused.
+#![tactic(auto)]
+
+mod run;
+
+pub use run::{MOST_INPUT_BYTES, RunEnd, run_lines};
+
+fn main(rt: HostRuntime) {
+    let _ = rt;
+}
