@@ -1,5 +1,6 @@
 -- Answers to lines, one after another.
-use Rattle.std.proofs.Common.{◌≡◌, ℕ, List, [], ◌∷◌, ◌++◌, refl, sym, ap, ◌∙◌, append_assoc, append-nil}
+use Rattle.std.proofs.Common.{◌≡◌, List, [], ◌∷◌, ◌++◌, refl, sym, ap, ◌∙◌, append_assoc, append-nil}
+use Rattle.std.specs.Prelude.{Result, Ok, Err, IsErr, IsErrAnd}
 use Rattle.reg_io.specs.declared.line.Line.{Line}
 use Rattle.desk_core.specs.State.{Setting, Desk}
 use Rattle.desk_core.specs.Answers.{line_answer, line_desk, answers_to, desk_after}
@@ -18,3 +19,9 @@ pub desk_after-more : (setting : Setting) (desk : Desk) (lines : List Line) (lin
     → desk_after setting desk (lines ++ line ∷ []) ≡ line_desk setting (desk_after setting desk lines) line
 desk_after-more setting desk [] line = refl
 desk_after-more setting desk (first ∷ lines) line = desk_after-more setting (line_desk setting desk first) lines line
+
+-- an answer that is a fault, and that one
+pub is_fault : {T E : Type 0} (result : Result T E) (fault : E) → IsErr result × IsErrAnd result (λ e. e ≡ fault)
+    → result ≡ Err fault
+is_fault (Ok value) fault told = absurd told.1
+is_fault (Err e) fault told = ap Err told.1

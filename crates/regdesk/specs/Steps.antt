@@ -1,5 +1,5 @@
 -- Private: one line of a run, and the run so far.
-use Rattle.std.specs.Prelude.{◌≡◌, ℕ, ◌≤◌, Bool, List, Option, None, Result, Ok, Err}
+use Rattle.std.specs.Prelude.{◌≡◌, ℕ, Bool, List, Option, Result, Ok, Err}
 use Rattle.std.specs.Io.KnownBytes.{Appends}
 use Rattle.reg_io.specs.Counts.{AppendsPrefix, Rose}
 use Rattle.reg_io.specs.GivenLines.{GaveLines}
@@ -7,7 +7,7 @@ use Rattle.reg_io.specs.declared.line.Line.{Line}
 use Rattle.reg_io.specs.declared.line.LineFault.{LineFault}
 use Rattle.reg_io.specs.declared.line.LineFault.TheVariants.{Read as ReadFault, InputTooLong as InputFault, Memory as MemoryFault}
 use Rattle.desk_core.specs.Opened.{Opened}
-use Rattle.desk_core.specs.Answers.{line_answer, line_desk, answers_to, desk_after}
+use Rattle.desk_core.specs.Answers.{line_answer, line_desk, answers_to}
 use Rattle.regdesk.specs.declared.run.RunEnd.{RunEnd}
 use Rattle.regdesk.specs.declared.run.RunEnd.TheVariants.{Memory, Read, Write, InputTooLong}
 use Rattle.regdesk.specs.declared.run.TheConstants.{MOST_INPUT_BYTES}
