@@ -1,2 +1,4 @@
 pub mod RunLemmas
 pub mod RunEnds
+pub mod CallEnds
+pub mod Completeness

@@ -11,8 +11,13 @@
 //! Leaves open: when memory is refused.
 #![tactic(auto)]
 
+mod complaint;
+mod desk_main;
+mod fault;
 mod run;
 
+pub use desk_main::{Finish, MOST_CONFIG_BYTES, desk_main};
+pub use fault::Fault;
 pub use run::{MOST_INPUT_BYTES, RunEnd, run_lines};
 
 fn main(rt: HostRuntime) {
