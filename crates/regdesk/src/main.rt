@@ -14,12 +14,32 @@
 mod complaint;
 mod desk_main;
 mod fault;
+mod program;
 mod run;
 
 pub use desk_main::{Finish, MOST_CONFIG_BYTES, desk_main};
 pub use fault::Fault;
 pub use run::{MOST_INPUT_BYTES, RunEnd, run_lines};
 
-fn main(rt: HostRuntime) {
-    let _ = rt;
+use reg_io::{Folder, MemoryDisk, ReaderSource, WriterSink};
+use std::process::ExitCode;
+
+fn main(rt: HostRuntime) -> ExitCode {
+    let alloc = rt.alloc();
+    let mut err = WriterSink::new(rt.stderr());
+    let words = match program::words_of(&rt) {
+        Ok(words) => words,
+        Err(fault) => return program::refuse(alloc, fault, &mut err),
+    };
+    let finish = desk_main(
+        &rt,
+        alloc,
+        words.as_slice(),
+        &mut Folder::new(&rt),
+        MemoryDisk::new(alloc),
+        &mut ReaderSource::new(rt.stdin()),
+        &mut WriterSink::new(rt.stdout()),
+        &mut err,
+    );
+    ExitCode::from(finish.status)
 }

@@ -1,0 +1,39 @@
+//! What the program is asked, before the top call can be made.
+ghost use Rattle.std.specs.Prelude.{◌≡◌};
+ghost use Rattle.std.specs.Process.{exit_status};
+ghost use Rattle.regdesk.specs.Statuses.{status_of};
+
+use crate::complaint::complain;
+use crate::fault::{Fault, end_status};
+use reg_io::Sink;
+use std::alloc::Global;
+use std::env;
+use std::io;
+use std::process::ExitCode;
+use std::rt::Env;
+
+/// The words behind the program's name. Words that are no text are none of the lists.
+pub fn words_of<R: Env + AllocGlobal>(rt: &R) -> Result<Vec<String>, Fault> {
+    let mut all = match env::args(rt) {
+        Ok(all) => all,
+        Err(e) if e.kind() == io::ErrorKind::OutOfMemory => return Err(Fault::Memory),
+        Err(_) => return Err(Fault::Usage),
+    };
+    all.next();
+    let mut words = Vec::new(rt.alloc());
+    for word in all {
+        if words.push(word).is_err() {
+            return Err(Fault::Memory);
+        }
+    }
+    Ok(words)
+}
+
+/// Ends with the status of a fault, and its line.
+pub fn refuse<E: Sink>(alloc: Global, fault: Fault, err: &mut E) -> ExitCode
+    ensures { exit_status result ≡ status_of fault }
+{
+    let end = Err(fault);
+    complain(alloc, &[], &end, err);
+    ExitCode::from(end_status(&end))
+}
