@@ -45,10 +45,12 @@ pub status-usage : (words : List (List ℕ)) (shelf shelf_now : ShelfState) (bef
     → status ≡ end_status end → Ends words shelf shelf_now before now end
     → (status ≡ 2) ↔ AskNothing words
 status-usage words shelf shelf_now before now end status status_is ends = elim ends [
-    inl usage ↦ (λ _. usage.0, λ _. status_is ∙ ap end_status usage.1)
-  | inr run ↦ (λ e. absurd (status_is_usage run.0 shelf shelf_now before now end run.2 (sym status_is ∙ e)),
-      λ nothing. absurd (nothing run.0 run.1))
-  ]
+  | inl usage ↦ (λ _. usage.0, λ _. status_is ∙ ap end_status usage.1)
+  | inr run ↦ (
+    λ e. absurd (status_is_usage run.0 shelf shelf_now before now end run.2 (sym status_is ∙ e)),
+    λ nothing. absurd (nothing run.0 run.1),
+  )
+]
 
 -- a list of two is its first and its second
 pub two_of : {X : Type 0} (f : X → List ℕ) (xs : List X) (a b : X) (word : List ℕ)

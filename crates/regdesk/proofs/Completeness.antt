@@ -37,7 +37,7 @@ same_bytes words shelf shelf_now before now config input name bytes may is_run h
     let same_name : may.name ≡ name = ap file_word (sym may.is_run ∙ is_run) in
     let told = rw may.files at has.told in
     ok_same (file_read (file_named name may.all) MOST_CONFIG_BYTES) may.bytes bytes
-      (rw same_name at may.read) told
+    (rw same_name at may.read) told
 
 -- all of the input is answered
 all_answers : (config : Config) (after : Opened) (before now : Streams) (input : List ℕ)
@@ -53,7 +53,7 @@ file_succeeds : (words : List (List ℕ)) (shelf shelf_now : ShelfState) (before
 file_succeeds words shelf shelf_now before now config input name (Ok done) may is_run run =
     let same = same_bytes words shelf shelf_now before now config input name run.accepted.bytes may is_run run.accepted.has in
     let same_config : run.config ≡ config =
-      ok_same (read_config run.accepted.bytes) run.config config run.accepted.read_as (rw same at may.accepted) in
+    ok_same (read_config run.accepted.bytes) run.config config run.accepted.read_as (rw same at may.accepted) in
     inl (refl, rw same_config at (all_answers run.config run.run.0 before now input may.input_is run.run.1))
 file_succeeds words shelf shelf_now before now config input name (Err Usage) may is_run run = absurd run
 file_succeeds words shelf shelf_now before now config input name (Err (Configuration fault)) may is_run run =
@@ -69,7 +69,7 @@ file_succeeds words shelf shelf_now before now config input name (Err File) may 
 file_succeeds words shelf shelf_now before now config input name (Err FileTooLong) may is_run run =
     let same_name : may.name ≡ name = ap file_word (sym may.is_run ∙ is_run) in
     absurd (not_both (file_read (file_named name may.all) MOST_CONFIG_BYTES) may.bytes TooLong
-      (rw same_name at may.read) (rw may.files at run.0))
+    (rw same_name at may.read) (rw may.files at run.0))
 file_succeeds words shelf shelf_now before now config input name (Err InputTooLong) may is_run run =
     let beyond = rw may.input_is at run.run.1.beyond in
     absurd (omega (arith, beyond.0, may.within))
@@ -80,6 +80,6 @@ pub call_succeeds : (words : List (List ℕ)) (shelf shelf_now : ShelfState) (be
     → (config : Config) (input : List ℕ) → MayRun words shelf shelf_now before now config input
     → Succeeds before now config input status
 call_succeeds words shelf shelf_now before now end status status_is ends config input may = elim ends [
-    inl usage ↦ absurd (usage.0 may.name may.is_run)
+  | inl usage ↦ absurd (usage.0 may.name may.is_run)
   | inr run ↦ rw status_is (file_succeeds words shelf shelf_now before now config input run.0 end may run.1 run.2)
-  ]
+]

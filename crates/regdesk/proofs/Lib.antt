@@ -2,3 +2,4 @@ pub mod RunLemmas
 pub mod RunEnds
 pub mod CallEnds
 pub mod Completeness
+pub mod WorkedRows

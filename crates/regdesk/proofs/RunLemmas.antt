@@ -8,7 +8,7 @@ use Rattle.desk_core.specs.Answers.{line_answer, line_desk, answers_to, desk_aft
 -- the answers to lines and then one more
 pub answers_to-more : (setting : Setting) (desk : Desk) (lines : List Line) (line : Line)
     → answers_to setting desk (lines ++ line ∷ [])
-      ≡ answers_to setting desk lines ++ line_answer setting (desk_after setting desk lines) line
+    ≡ answers_to setting desk lines ++ line_answer setting (desk_after setting desk lines) line
 answers_to-more setting desk [] line = append-nil (line_answer setting desk line)
 answers_to-more setting desk (first ∷ lines) line =
     ap (λ l. line_answer setting desk first ++ l) (answers_to-more setting (line_desk setting desk first) lines line)

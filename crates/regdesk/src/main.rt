@@ -16,12 +16,13 @@ mod desk_main;
 mod fault;
 mod program;
 mod run;
+#[cfg(test)]
+mod tests;
 
 pub use desk_main::{Finish, MOST_CONFIG_BYTES, desk_main};
 pub use fault::Fault;
-pub use run::{MOST_INPUT_BYTES, RunEnd, run_lines};
-
 use reg_io::{Folder, MemoryDisk, ReaderSource, WriterSink};
+pub use run::{MOST_INPUT_BYTES, RunEnd, run_lines};
 use std::process::ExitCode;
 
 fn main(rt: HostRuntime) -> ExitCode {

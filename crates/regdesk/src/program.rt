@@ -7,10 +7,9 @@ use crate::complaint::complain;
 use crate::fault::{Fault, end_status};
 use reg_io::Sink;
 use std::alloc::Global;
-use std::env;
-use std::io;
 use std::process::ExitCode;
 use std::rt::Env;
+use std::{env, io};
 
 /// The words behind the program's name. Words that are no text are none of the lists.
 pub fn words_of<R: Env + AllocGlobal>(rt: &R) -> Result<Vec<String>, Fault> {

@@ -85,12 +85,7 @@ fn answer_lines<S: Source, O: Sink>(
 }
 
 // Answers one line: its reply is written whole, in one call.
-fn answer<O: Sink>(
-    alloc: Global,
-    desk: &mut Desk,
-    line: Line,
-    out: &mut O,
-) -> Result<(), RunEnd>
+fn answer<O: Sink>(alloc: Global, desk: &mut Desk, line: Line, out: &mut O) -> Result<(), RunEnd>
     ensures answered { Answered desk.old desk.new line (O.taken out.old) (O.taken out.new)
         (O.write_faults out.old) (O.write_faults out.new) result }
     ensures later { O.write_faults out.old ≤ O.write_faults out.new }

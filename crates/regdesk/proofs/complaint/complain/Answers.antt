@@ -1,4 +1,4 @@
-use Rattle.std.proofs.Common.{◌≡◌, refl, inl, inr, ◌∙◌}
+use Rattle.std.proofs.Common.{refl, inl, inr, ◌∙◌}
 use Rattle.regdesk.proofs.complaint.complain.Goals as goal
 
 pub returns-in-Usage : goal.returns-in-Usage
@@ -6,9 +6,9 @@ returns-in-Usage g c = rw c.in-Err.is (rw c.in-Usage.is (inl c.write_line.ensure
 
 pub returns-in-Ok : goal.returns-in-Ok
 returns-in-Ok g c = rw c.in-Err.is (rw c.in-Configuration.is (elim c.write_made.ensures [
-    inl line ↦ inl (rw (c.as_str.ensures.value ∙ c.in-Ok.ensures) at line)
+  | inl line ↦ inl (rw (c.as_str.ensures.value ∙ c.in-Ok.ensures) at line)
   | inr kept ↦ inr (refl, kept)
-  ]))
+]))
 
 pub returns-in-Memory : goal.returns-in-Memory
 returns-in-Memory g c = rw c.in-Err.is (rw c.in-Memory.is (inl c.write_line-in-Memory.ensures))
@@ -21,9 +21,9 @@ returns-in-Write g c = rw c.in-Err.is (rw c.in-Write.is (inl c.write_line-in-Wri
 
 pub returns-in-File : goal.returns-in-File
 returns-in-File g c = rw c.in-Err.is (rw c.in-File.is (elim c.write_made-in-File.ensures [
-    inl line ↦ inl (rw c.file_word.ensures at line)
+  | inl line ↦ inl (rw c.file_word.ensures at line)
   | inr kept ↦ inr (refl, kept)
-  ]))
+]))
 
 pub returns-in-FileTooLong : goal.returns-in-FileTooLong
 returns-in-FileTooLong g c =

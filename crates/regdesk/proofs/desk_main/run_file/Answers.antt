@@ -1,4 +1,3 @@
-use Rattle.std.proofs.Common.{◌≡◌}
 use Rattle.regdesk.proofs.RunLemmas.{is_fault}
 use Rattle.regdesk.proofs.CallEnds.{RunsFile-fault}
 use Rattle.regdesk.proofs.desk_main.run_file.Goals as goal
@@ -6,9 +5,9 @@ use Rattle.regdesk.proofs.desk_main.run_file.Goals as goal
 pub returns-in_err-run_config : goal.returns-in_err-run_config
 returns-in_err-run_config g c = record {
   runs = rw (is_fault c.from_residual-in_err-run_config.result _ c.from_residual-in_err-run_config.ensures)
-    (RunsFile-fault _
+      (RunsFile-fault _
       (record { files = g.F.Shelf.files c.args.shelf.now; faults = g.F.Shelf.faults c.args.shelf.now })
       (record { files = g.F.Shelf.files c.read_config.new.shelf; faults = g.F.Shelf.faults c.read_config.new.shelf })
       _ _ _ c.in_ok-config.config c.in_ok-config.ensures.reads
-      c.in_err-run_config.ensures.runs)
+      c.in_err-run_config.ensures.runs);
 }
