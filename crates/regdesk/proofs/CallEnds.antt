@@ -1,6 +1,6 @@
 -- What a top call comes to, from its parts; and that nothing else is left where nothing is wrong.
-use Rattle.std.proofs.Common.{◌≡◌, ◌⊎◌, ℕ, List, [], ◌∷◌, length, Option, None, Some, refl, sym, ap, ◌∙◌, inl, inr, arith}
-use Rattle.std.specs.Prelude.{codes, Result, Ok, Err, ◌↔◌, ◌≢◌, ◌<◌, ◌≤◌, get_or, map, true, bytes_eq}
+use Rattle.std.proofs.Common.{◌≡◌, ℕ, List, [], ◌∷◌, length, sym, ap, ◌∙◌, inl, inr, arith}
+use Rattle.std.specs.Prelude.{Result, Ok, Err, ◌↔◌, ◌≢◌, ◌<◌, ◌≤◌, get_or, map, true, bytes_eq}
 use Rattle.std.proofs.lemmas.Slice.Eq.{bytes_eq-Decides}
 use Rattle.cfg_model.specs.declared.config.Config.{Config}
 use Rattle.cfg_model.specs.Reading.{read_config}
@@ -11,7 +11,7 @@ use Rattle.regdesk.specs.declared.fault.Fault.{Fault}
 use Rattle.regdesk.specs.declared.fault.Fault.TheVariants.{Usage, Configuration, Memory, Read, Write, File, FileTooLong, InputTooLong}
 use Rattle.regdesk.specs.Runs.{Streams, Runs}
 use Rattle.regdesk.specs.Statuses.{run_fault, end_status}
-use Rattle.regdesk.specs.Ends.{ShelfState, IsRun, AskNothing, ReadsAs, RunsFile, Ends, RunsWith, first_opened}
+use Rattle.regdesk.specs.Ends.{ShelfState, AskNothing, ReadsAs, RunsFile, Ends, RunsWith, first_opened}
 
 -- a run that ended early is what the call comes to
 pub RunsFile-fault : (name : List ℕ) (shelf shelf_now : ShelfState) (before now : Streams) (end : RunEnd) (config : Config)

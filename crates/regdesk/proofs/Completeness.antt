@@ -1,23 +1,20 @@
 -- Where nothing stands in the way, the whole input is answered, unless memory is refused.
-use Rattle.std.proofs.Common.{◌≡◌, ◌⊎◌, ℕ, ◌<◌, ◌≤◌, List, [], ◌∷◌, length, Option, None, Some, IfSome, refl, sym, ap, ◌∙◌, inl, inr, arith}
-use Rattle.std.specs.Prelude.{codes, Result, Ok, Err}
+use Rattle.std.proofs.Common.{◌≡◌, ℕ, List, Some, refl, sym, ap, ◌∙◌, inl, inr, arith}
+use Rattle.std.specs.Prelude.{Result, Ok, Err}
 use Rattle.std.specs.Io.KnownBytes.{Appends}
 use Rattle.reg_io.specs.Files.{file_named, file_read}
-use Rattle.reg_io.specs.declared.shelf.ShelfFault.{ShelfFault}
 use Rattle.reg_io.specs.declared.shelf.ShelfFault.TheVariants.{TooLong}
 use Rattle.cfg_model.specs.declared.config.Config.{Config}
-use Rattle.cfg_model.specs.declared.fault.CfgFault.{CfgFault}
 use Rattle.cfg_model.specs.Reading.{read_config}
 use Rattle.desk_core.specs.Opened.{Opened}
-use Rattle.desk_core.specs.Answers.{answers, answers_to}
+use Rattle.desk_core.specs.Answers.{answers}
 use Rattle.desk_core.specs.State.{first_desk}
 use Rattle.regdesk.specs.declared.fault.Fault.{Fault}
 use Rattle.regdesk.specs.declared.fault.Fault.TheVariants.{Usage, Configuration, Memory, Read, Write, File, FileTooLong, InputTooLong}
-use Rattle.regdesk.specs.declared.run.TheConstants.{MOST_INPUT_BYTES}
 use Rattle.regdesk.specs.declared.desk_main.TheConstants.{MOST_CONFIG_BYTES}
 use Rattle.regdesk.specs.Runs.{Streams, AnswersAll}
 use Rattle.regdesk.specs.Statuses.{end_status, file_word}
-use Rattle.regdesk.specs.Ends.{ShelfState, IsRun, ReadsAs, HasBytes, IsLongFile, RunsFile, Ends, MayRun, Succeeds, first_opened}
+use Rattle.regdesk.specs.Ends.{ShelfState, IsRun, HasBytes, RunsFile, Ends, MayRun, Succeeds, first_opened}
 
 -- two answers that are the same value
 ok_same : {T E : Type 0} (read : Result T E) (a b : T) → read ≡ Ok a → read ≡ Ok b → a ≡ b

@@ -1,5 +1,5 @@
 -- Rows of the definitions, computed.
-use Rattle.std.specs.Prelude.{◌≡◌, ℕ, codes, List, [], ◌∷◌, ◌++◌}
+use Rattle.std.specs.Prelude.{◌≡◌, codes, [], ◌∷◌, ◌++◌}
 use Rattle.std.proofs.Common.{refl}
 use Rattle.cfg_model.specs.FaultTexts.{fault_text}
 use Rattle.cfg_model.specs.declared.fault.CfgFault.TheVariants.{Unknown}

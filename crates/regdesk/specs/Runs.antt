@@ -30,12 +30,14 @@ WritesAnswers opened lines before now =
 
 -- these are the first lines of the input, where its bytes are told
 abbrev pub AreFirstLines : List Line → Option (List ℕ) → Type 0
-AreFirstLines lines input = IfSome input (λ bytes. (rest : List Line) × (lines_of bytes ≡ lines ++ rest))
+AreFirstLines lines input = IfSome input (λ bytes. (rest : List Line) ×
+    (lines_of bytes ≡ lines ++ rest))
 
 -- the input was read to its end and lies within its limit, and all of its lines were answered
 pub record AnswersAll (opened after : Opened) (before now : Streams) : Type 0 where
   pub lines : List Line
-  pub all : IfSome before.left (λ bytes. (lines_of bytes ≡ lines) × (length bytes ≤ MOST_INPUT_BYTES))
+  pub all : IfSome before.left (λ bytes. (lines_of bytes ≡ lines) ×
+      (length bytes ≤ MOST_INPUT_BYTES))
   pub at_end : IsAtEnd now.left
   pub out : WritesAnswers opened lines before now
   pub desk_is : after ≡ opened_after opened lines

@@ -23,11 +23,14 @@ end_of MemoryFault = Memory
 abbrev pub opened_line : Opened → Line → Opened
 opened_line opened line = record { setting = opened.setting; desk = line_desk opened.setting opened.desk line }
 
--- a line was run, and its answer was taken whole, or in part after a fault; without memory nothing moved
-abbrev pub Answered : Opened → Opened → Line → Option (List ℕ) → Option (List ℕ) → ℕ → ℕ → Result (Unit {0}) RunEnd → Type 0
+-- a line was run, and its answer was taken whole, or in part after a fault; without memory nothing
+-- moved
+abbrev pub Answered : Opened → Opened → Line → Option (List ℕ) → Option (List ℕ) → ℕ → ℕ
+    → Result (Unit {0}) RunEnd → Type 0
 Answered old new line out_old out_new faults_old faults_new (Ok _) =
     Appends out_old out_new (line_answer old.setting old.desk line) × (new ≡ opened_line old line)
-Answered old new line out_old out_new faults_old faults_new (Err Memory) = (out_new ≡ out_old) × (new ≡ old)
+Answered old new line out_old out_new faults_old faults_new (Err Memory) = (out_new ≡ out_old) ×
+    (new ≡ old)
 Answered old new line out_old out_new faults_old faults_new (Err Write) =
     AppendsPrefix out_old out_new (line_answer old.setting old.desk line)
     × (new ≡ opened_line old line) × Rose faults_old faults_new
@@ -35,7 +38,8 @@ Answered old new line out_old out_new faults_old faults_new (Err Read) = ⊥
 Answered old new line out_old out_new faults_old faults_new (Err InputTooLong) = ⊥
 
 -- the run so far: these lines were given, and their answers were written
-pub record IsRunning (opened now : Opened) (first ahead_now : Option (List ℕ)) (room : ℕ) (ended : Bool) (out_first out_now : Option (List ℕ)) : Type 0 where
+pub record IsRunning (opened now : Opened) (first ahead_now : Option (List ℕ)) (room : ℕ)
+    (ended : Bool) (out_first out_now : Option (List ℕ)) : Type 0 where
   pub lines : List Line
   pub given : GaveLines first ahead_now MOST_INPUT_BYTES room ended lines
   pub out : Appends out_first out_now (answers_to opened.setting opened.desk lines)

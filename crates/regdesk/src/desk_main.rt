@@ -1,6 +1,10 @@
 //! The top call: what the words ask, on the objects that are handed in.
-ghost use Rattle.std.specs.Prelude.{◌≡◌, ◌↔◌, map, string_bytes};
-ghost use Rattle.regdesk.specs.Ends.{AskNothing, Ends, Finishes, ReadsConfig, RunsFile, RunsWith};
+ghost use Rattle.std.specs.Prelude.{◌≡◌, ◌↔◌, List, map, string_bytes};
+ghost use Rattle.reg_io.specs.declared.line.Line.{Line};
+ghost use Rattle.cfg_model.specs.declared.config.Config.{Config};
+ghost use Rattle.desk_core.specs.State.{first_desk};
+ghost use Rattle.desk_core.specs.Laws.{BalancesHold};
+ghost use Rattle.regdesk.specs.Ends.{first_opened, AskNothing, Ends, Finishes, ReadsConfig, RunsFile, RunsWith};
 
 use crate::complaint::complain;
 use crate::fault::{Fault, end_status};
@@ -55,6 +59,10 @@ pub fn desk_main<R: Threads + Sync, F: Shelf, D: Disk + Send, S: Source, O: Sink
     // Wrong words alone end with 2.
     ensures words { (result.status ≡ 2) ↔ AskNothing (map (λ w. string_bytes w) words.now) }
     ensures disk { result.disk ≡ disk }
+
+    // Each accepted balance among the lines of an input is the sum over the records at its point.
+    ensures balances { (config : Config) (lines : List Line)
+        → BalancesHold (first_opened config).setting first_desk lines }
 {
     let _ = rt;
     let end = run_words(alloc, words, shelf, input, out);

@@ -12,8 +12,9 @@ use std::thread::Threads;
 const SHOP: &str = "[register.goods]\nkind = \"balance\"\ndimensions = [\"item:code\"]\n\
 resources = [\"quantity:3\", \"amount:2\"]\n\n[clerk.anna]\nrights = [\"manual\", \"read\"]\n";
 
-const RECEIPT: &str =
-    "{\"clerk\":\"anna\",\"date\":\"2024-01-10T09:00:00\",\"no\":1,\"op\":\"manual\",\"sets\":[{\"records\":[{\"kind\":\"receipt\",\"sums\":[\"10.000\",\"50.00\"],\"values\":[\"nail\"]}],\"space\":\"goods\"}]}";
+const RECEIPT: &str = "{\"clerk\":\"anna\",\"date\":\"2024-01-10T09:00:00\",\"no\":1,\
+\"op\":\"manual\",\"sets\":[{\"records\":[{\"kind\":\"receipt\",\
+\"sums\":[\"10.000\",\"50.00\"],\"values\":[\"nail\"]}],\"space\":\"goods\"}]}";
 
 const POSTED: &str = "{\"ok\":{\"active\":true,\"doc\":1,\"state\":\"posted\"}}\n";
 

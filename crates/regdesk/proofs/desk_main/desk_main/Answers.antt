@@ -1,3 +1,4 @@
+use Rattle.desk_core.proofs.LawLemmas.{BalancesHold-always}
 use Rattle.regdesk.proofs.CallEnds.{status-usage}
 use Rattle.regdesk.proofs.Completeness.{call_succeeds}
 use Rattle.regdesk.proofs.desk_main.desk_main.Goals as goal
@@ -28,3 +29,6 @@ returns-clause-words g c = status-usage _
       write_faults = g.O.Device.write_faults c.run_words-end.new.out;
     })
     c.run_words-end.result _ c.end_status.ensures c.run_words-end.ensures.ends
+
+pub returns-clause-balances : goal.returns-clause-balances
+returns-clause-balances g c = λ config lines. BalancesHold-always _ _ lines
