@@ -1,5 +1,5 @@
 //! What the program is asked, before the top call can be made.
-ghost use Rattle.std.specs.Prelude.{◌≡◌};
+ghost use Rattle.std.specs.Prelude.{◌≡◌, ◌⊎◌, IfErr};
 ghost use Rattle.std.specs.Process.{exit_status};
 ghost use Rattle.regdesk.specs.Statuses.{status_of};
 
@@ -12,7 +12,9 @@ use std::rt::Env;
 use std::{env, io};
 
 /// The words behind the program's name. Words that are no text are none of the lists.
-pub fn words_of<R: Env + AllocGlobal>(rt: &R) -> Result<Vec<String>, Fault> {
+pub(crate) fn words_of<R: Env + AllocGlobal>(rt: &R) -> Result<Vec<String>, Fault>
+    ensures { IfErr result (λ fault. (fault ≡ Fault.Memory) ⊎ (fault ≡ Fault.Usage)) }
+{
     let mut all = match env::args(rt) {
         Ok(all) => all,
         Err(e) if e.kind() == io::ErrorKind::OutOfMemory => return Err(Fault::Memory),
@@ -29,7 +31,7 @@ pub fn words_of<R: Env + AllocGlobal>(rt: &R) -> Result<Vec<String>, Fault> {
 }
 
 /// Ends with the status of a fault, and its line.
-pub fn refuse<E: Sink>(alloc: Global, fault: Fault, err: &mut E) -> ExitCode
+pub(crate) fn refuse<E: Sink>(alloc: Global, fault: Fault, err: &mut E) -> ExitCode
     ensures { exit_status result ≡ status_of fault }
 {
     let end = Err(fault);

@@ -1,9 +1,12 @@
 //! Rows of a shop: what a run writes, and the status and the line of each way in which it ends.
 use crate::{Finish, desk_main};
+use cfg_model::Config;
+use desk_core::Desk;
+use desk_words::Request;
 use reg_base::{List, Text};
 use reg_io::{
-    FailingCalls, FailingShelf, FailingSink, FailingSource, MemoryDisk, MemoryShelf, MemorySink,
-    MemorySource, Shelf, Sink, Source,
+    FailingCalls, FailingShelf, FailingSink, FailingSource, Line, MemoryDisk, MemoryShelf,
+    MemorySink, MemorySource, Shelf, Sink, Source,
 };
 use std::alloc::Global;
 use std::test::Fail;
@@ -289,5 +292,24 @@ fn a_failed_write_is_told_and_one_of_the_line_changes_nothing(rt: HostRuntime) -
     let mut err = FailingSink::new(MemorySink::new(alloc, 5), calls(alloc, &[2])?);
     assert_eq!(rt; status_to(&rt, alloc, "x = 1", &mut out, &mut err)?, 3);
     assert_eq!(rt; err.sink.bytes.as_slice(), b"regde".as_slice());
+    Ok(())
+}
+
+#[test]
+fn a_step_replies_as_its_line_is_answered(rt: HostRuntime) -> Result<(), Fail> {
+    let alloc = rt.alloc();
+    let bytes = List::from_slice(alloc, RECEIPT.as_bytes())?;
+    let config = Config::read(alloc, SHOP.as_bytes())
+        .ok()
+        .ok_or("a configuration")?;
+    let request = Request::read(alloc, &Line::Text { bytes })
+        .ok()
+        .ok_or("a request")?;
+    let mut desk = Desk::open(alloc, config);
+    let reply = desk.step(alloc, &request).ok().ok_or("a reply")?;
+    let mut text = Vec::new(alloc);
+    reply.print(alloc, &mut text).ok().ok_or("a text")?;
+    text.push(b'\n')?;
+    assert_eq!(rt; text.as_slice(), POSTED.as_bytes());
     Ok(())
 }
