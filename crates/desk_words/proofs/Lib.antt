@@ -1,4 +1,5 @@
 pub mod Documents
 pub mod Walks
 pub mod ReplyLemmas
+pub mod RequestLemmas
 mod WorkedRows

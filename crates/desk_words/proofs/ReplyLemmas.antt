@@ -32,7 +32,7 @@ items_have_float-texts [] = refl
 items_have_float-texts (t ∷ ts) = items_have_float-texts ts
 
 -- a list of texts has none
-has_float-texts_data : (texts : List (List ℕ)) → has_float (texts_data texts) ≡ false
+pub has_float-texts_data : (texts : List (List ℕ)) → has_float (texts_data texts) ≡ false
 unfolding texts_data
 has_float-texts_data texts = items_have_float-texts texts
 

@@ -4,3 +4,5 @@ pub mod Sets
 pub mod Reading
 pub mod ReplyWords
 pub mod ReplyTexts
+pub mod RequestTexts
+pub mod WellFormed

@@ -15,10 +15,12 @@
 mod fault;
 mod members;
 mod parsed;
+mod print;
 mod read;
 mod reply;
 mod reply_values;
 mod request;
+mod request_values;
 mod shapes;
 #[cfg(test)]
 mod tests;

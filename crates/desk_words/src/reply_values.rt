@@ -204,7 +204,7 @@ fn text_member(alloc: Global, name: &str, value: &str) -> Result<Object, Memory>
     Ok(members)
 }
 
-fn text(alloc: Global, value: &str) -> Result<Json, Memory>
+pub(crate) fn text(alloc: Global, value: &str) -> Result<Json, Memory>
     ensures { IfOk result (λ v. view v ≡ string value.now) }
 {
     Ok(Json::String(String::from_str(alloc, value)?))

@@ -19,7 +19,7 @@ lowercase-below : (b : ℕ) → is_ascii_lowercase b ≡ true → b < 128
 lowercase-below b h = grind (arith, nat_tests)
 
 -- where a test lets only bytes below 128 through, those that pass are ASCII
-IsAscii-from_test : (test : ℕ → Bool) → ((b : ℕ) → test b ≡ true → b < 128) → (bs : List ℕ) → list_all test bs ≡ true → IsAscii bs
+pub IsAscii-from_test : (test : ℕ → Bool) → ((b : ℕ) → test b ≡ true → b < 128) → (bs : List ℕ) → list_all test bs ≡ true → IsAscii bs
 IsAscii-from_test test low [] h i = omega arith
 IsAscii-from_test test low (b ∷ bs) h zero = low b (both (test b) (list_all test bs) h).0
 IsAscii-from_test test low (b ∷ bs) h (suc i) = IsAscii-from_test test low bs (both (test b) (list_all test bs) h).1 i

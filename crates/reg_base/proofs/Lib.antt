@@ -4,8 +4,11 @@ pub mod DayLemmas
 pub mod DigitLemmas
 pub mod NumberLemmas
 pub mod PointTextLemmas
+pub mod RangeLemmas
+pub mod ResultLemmas
 pub mod SumTextLemmas
 pub mod TextLemmas
+pub mod Utf8Lemmas
 mod WorkedRows
 pub mod OrderLemmas
 pub mod OnceLemmas

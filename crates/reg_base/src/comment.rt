@@ -27,4 +27,10 @@ impl Comment {
             text: String::new(alloc),
         }
     }
+
+    pub fn as_str(&self) -> &str
+        ensures { result.now ≡ self.now }
+    {
+        self.text.as_str()
+    }
 }

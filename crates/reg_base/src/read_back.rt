@@ -1,5 +1,5 @@
-//! Laws: what is printed is read back to the same value.
-ghost use Rattle.std.specs.Prelude.{◌≡◌, ℕ, ◌<◌, ◌≤◌, ℤ, unsigned_abs, Ok};
+//! Laws: what is printed is read back to the same value, and what is read is in range.
+ghost use Rattle.std.specs.Prelude.{◌≡◌, ℕ, ◌<◌, ◌≤◌, ℤ, List, unsigned_abs, Ok, IfOk};
 ghost use Rattle.reg_base.specs.Numbers.{largest_units, parse_num, sum_text};
 ghost use Rattle.reg_base.specs.Dates.{parse_date, date_text};
 ghost use Rattle.reg_base.specs.declared.point.Point.{Point};
@@ -26,4 +26,12 @@ pub fn points_read_back()
 /// A law: the text of a cut spells the cut.
 pub fn cuts_read_back()
     ensures { (cut : Cut) → IsCut cut → parse_cut (cut_text cut) ≡ Ok cut }
+{}
+
+/// A law: what a text spells as a date lies in 2000 to 2099; what it spells as a point or a cut
+/// is one.
+pub fn what_is_read_is_in_range()
+    ensures dates { (text : List ℕ) → IfOk (parse_date text) (λ d. d < 3_155_760_000) }
+    ensures points { (text : List ℕ) → IfOk (parse_point text) IsPoint }
+    ensures cuts { (text : List ℕ) → IfOk (parse_cut text) IsCut }
 {}

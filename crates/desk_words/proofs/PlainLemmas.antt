@@ -1,0 +1,97 @@
+-- The JSON of a request that a line can be is plain, and nests a few levels deep.
+use Rattle.std.proofs.Common.{◌≡◌, ℕ, suc, ◌^◌, ◌<◌, ◌≤◌, max, true, nat_lt, Option, Some, None, IfSome, List, [], ◌∷◌, map, IsUtf8, codes, refl, arith}
+use Rattle.std.specs.List.{AllByRecursion, list_all}
+use Rattle.serde_json.specs.Data.{Data, string, object, Members, no_members, depth, items_depth}
+use Rattle.serde_json.specs.View.{items_of}
+use Rattle.json_laws.specs.Plain.{stands_before, IsNameBefore, IsPlain, ItemsArePlain, MembersArePlain}
+use Rattle.reg_base.specs.Cuts.{IsCut, cut_text}
+use Rattle.reg_base.specs.Dates.{date_text}
+use Rattle.reg_base.specs.declared.cut.Cut.{Cut}
+use Rattle.reg_base.specs.declared.records.Mark.{Mark}
+use Rattle.reg_base.specs.declared.records.Mark.TheVariants.{Receipt, Expense, Turn}
+use Rattle.reg_base.specs.declared.records.Side.{Side}
+use Rattle.reg_base.proofs.Utf8Lemmas.{IsUtf8-tested, IsUtf8-code, IsUtf8-name, IsUtf8-date_text, IsUtf8-cut_text}
+use Rattle.desk_words.specs.declared.request.SetText.{SetText}
+use Rattle.desk_words.specs.declared.request.RecordText.{RecordText}
+use Rattle.desk_words.specs.declared.request.RecordText.TheVariants.{Register, Ledger}
+use Rattle.desk_words.specs.ReplyTexts.{texts_data}
+use Rattle.desk_words.specs.RequestTexts.{mark_name, side_data, register_data, ledger_data, record_data, set_data, sets_data}
+use Rattle.desk_words.specs.WellFormed.{IsName, IsCode, IsSide, IsRecordText, IsSetText}
+
+-- ---- plain values
+
+-- a member whose name stands in the source
+pub named : (name : List ℕ) (ms : Members) → list_all (λ b. nat_lt b 128) name ≡ true → stands_before name ms ≡ true → IsNameBefore name ms
+named name ms ascii before = (IsUtf8-tested name ascii, before)
+
+ItemsArePlain-each : {X : Type 0} (data_of : X → Data) (P : X → Type 0) → ((x : X) → P x → IsPlain (data_of x)) → (xs : List X) → AllByRecursion P xs → ItemsArePlain (items_of (map data_of xs))
+ItemsArePlain-each data_of P plain [] h = tt
+ItemsArePlain-each data_of P plain (x ∷ xs) h = (plain x h.0, ItemsArePlain-each data_of P plain xs h.1)
+
+IsPlain-texts_data : (P : List ℕ → Type 0) → ((text : List ℕ) → P text → IsUtf8 text) → (texts : List (List ℕ)) → AllByRecursion P texts → IsPlain (texts_data texts)
+unfolding texts_data
+IsPlain-texts_data P utf8 texts h = ItemsArePlain-each string P utf8 texts h
+
+same : (text : List ℕ) → IsUtf8 text → IsUtf8 text
+same text h = h
+
+IsUtf8-mark_name : (mark : Mark) → IsUtf8 (mark_name mark)
+IsUtf8-mark_name Receipt = IsUtf8-tested (codes "receipt") refl
+IsUtf8-mark_name Expense = IsUtf8-tested (codes "expense") refl
+IsUtf8-mark_name Turn = IsUtf8-tested (codes "turn") refl
+
+IsPlain-side_data : (side : Option Side) → IfSome side IsSide → IsPlain (side_data side)
+IsPlain-side_data None h = tt
+IsPlain-side_data (Some side) h = IsPlain-texts_data IsCode IsUtf8-code (side.account ∷ side.extras) h
+
+IsPlain-record_data : (given : RecordText) → IsRecordText given → IsPlain (record_data given)
+unfolding register_data ledger_data
+IsPlain-record_data (Register r) h = (
+  named (codes "kind") _ refl refl,
+  IsUtf8-mark_name r.mark,
+  (named (codes "sums") _ refl refl, IsPlain-texts_data IsUtf8 same r.sums h.0, (named (codes "values") _ refl refl, IsPlain-texts_data IsUtf8 same r.values h.1, tt)),
+)
+IsPlain-record_data (Ledger r) h = (
+  named (codes "amount") _ refl refl,
+  h.0,
+  (named (codes "credit") _ refl refl, IsPlain-side_data r.credit h.1, (named (codes "debit") _ refl refl, IsPlain-side_data r.debit h.2, tt)),
+)
+
+IsPlain-set_data : (set : SetText) → IsSetText set → IsPlain (set_data set)
+unfolding set_data
+IsPlain-set_data set h = (
+  named (codes "records") _ refl refl,
+  ItemsArePlain-each record_data IsRecordText IsPlain-record_data set.records h.1,
+  (named (codes "space") _ refl refl, IsUtf8-name set.space h.0, tt),
+)
+
+pub IsPlain-sets_data : (sets : List SetText) → AllByRecursion IsSetText sets → IsPlain (sets_data sets)
+unfolding sets_data
+IsPlain-sets_data sets h = ItemsArePlain-each set_data IsSetText IsPlain-set_data sets h
+
+-- ---- how deep they nest
+
+items_depth-each : {X : Type 0} (data_of : X → Data) (most : ℕ) → ((x : X) → depth (data_of x) ≤ most) → (xs : List X) → items_depth (items_of (map data_of xs)) ≤ most
+items_depth-each data_of most h [] = omega arith
+items_depth-each data_of most h (x ∷ xs) = omega (arith, h x, items_depth-each data_of most h xs)
+
+depth-texts_data : (texts : List (List ℕ)) → depth (texts_data texts) ≤ 1
+unfolding texts_data
+depth-texts_data texts = omega (arith, items_depth-each string 0 (λ text. omega arith) texts)
+
+depth-side_data : (side : Option Side) → depth (side_data side) ≤ 1
+depth-side_data None = omega arith
+depth-side_data (Some side) = depth-texts_data (side.account ∷ side.extras)
+
+depth-record_data : (given : RecordText) → depth (record_data given) ≤ 2
+unfolding register_data ledger_data
+depth-record_data (Register r) = omega (arith, depth-texts_data r.sums, depth-texts_data r.values)
+depth-record_data (Ledger r) = omega (arith, depth-side_data r.credit, depth-side_data r.debit)
+
+depth-set_data : (set : SetText) → depth (set_data set) ≤ 4
+unfolding set_data
+depth-set_data set = omega (arith, items_depth-each record_data 2 depth-record_data set.records)
+
+pub depth-sets_data : (sets : List SetText) → depth (sets_data sets) ≤ 5
+unfolding sets_data
+depth-sets_data sets = omega (arith, items_depth-each set_data 4 depth-set_data sets)

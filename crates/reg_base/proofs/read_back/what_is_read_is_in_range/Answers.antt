@@ -1,0 +1,11 @@
+use Rattle.reg_base.proofs.RangeLemmas.{parse_date-within, parse_point-IsPoint, parse_cut-IsCut}
+use Rattle.reg_base.proofs.read_back.what_is_read_is_in_range.Goals as goal
+
+pub returns-clause-dates : goal.returns-clause-dates
+returns-clause-dates c = parse_date-within
+
+pub returns-clause-points : goal.returns-clause-points
+returns-clause-points c = parse_point-IsPoint
+
+pub returns-clause-cuts : goal.returns-clause-cuts
+returns-clause-cuts c = parse_cut-IsCut
