@@ -20,10 +20,6 @@ use Rattle.desk_words.specs.WellFormed.{IsName, IsCode, IsSide, IsRecordText, Is
 
 -- ---- plain values
 
--- a member whose name stands in the source
-pub named : (name : List ℕ) (ms : Members) → list_all (λ b. nat_lt b 128) name ≡ true → stands_before name ms ≡ true → IsNameBefore name ms
-named name ms ascii before = (IsUtf8-tested name ascii, before)
-
 ItemsArePlain-each : {X : Type 0} (data_of : X → Data) (P : X → Type 0) → ((x : X) → P x → IsPlain (data_of x)) → (xs : List X) → AllByRecursion P xs → ItemsArePlain (items_of (map data_of xs))
 ItemsArePlain-each data_of P plain [] h = tt
 ItemsArePlain-each data_of P plain (x ∷ xs) h = (plain x h.0, ItemsArePlain-each data_of P plain xs h.1)
@@ -47,22 +43,22 @@ IsPlain-side_data (Some side) h = IsPlain-texts_data IsCode IsUtf8-code (side.ac
 IsPlain-record_data : (given : RecordText) → IsRecordText given → IsPlain (record_data given)
 unfolding register_data ledger_data
 IsPlain-record_data (Register r) h = (
-  named (codes "kind") _ refl refl,
+  (IsUtf8-tested (codes "kind") refl, refl),
   IsUtf8-mark_name r.mark,
-  (named (codes "sums") _ refl refl, IsPlain-texts_data IsUtf8 same r.sums h.0, (named (codes "values") _ refl refl, IsPlain-texts_data IsUtf8 same r.values h.1, tt)),
+  ((IsUtf8-tested (codes "sums") refl, refl), IsPlain-texts_data IsUtf8 same r.sums h.0, ((IsUtf8-tested (codes "values") refl, refl), IsPlain-texts_data IsUtf8 same r.values h.1, tt)),
 )
 IsPlain-record_data (Ledger r) h = (
-  named (codes "amount") _ refl refl,
+  (IsUtf8-tested (codes "amount") refl, refl),
   h.0,
-  (named (codes "credit") _ refl refl, IsPlain-side_data r.credit h.1, (named (codes "debit") _ refl refl, IsPlain-side_data r.debit h.2, tt)),
+  ((IsUtf8-tested (codes "credit") refl, refl), IsPlain-side_data r.credit h.1, ((IsUtf8-tested (codes "debit") refl, refl), IsPlain-side_data r.debit h.2, tt)),
 )
 
 IsPlain-set_data : (set : SetText) → IsSetText set → IsPlain (set_data set)
 unfolding set_data
 IsPlain-set_data set h = (
-  named (codes "records") _ refl refl,
+  (IsUtf8-tested (codes "records") refl, refl),
   ItemsArePlain-each record_data IsRecordText IsPlain-record_data set.records h.1,
-  (named (codes "space") _ refl refl, IsUtf8-name set.space h.0, tt),
+  ((IsUtf8-tested (codes "space") refl, refl), IsUtf8-name set.space h.0, tt),
 )
 
 pub IsPlain-sets_data : (sets : List SetText) → AllByRecursion IsSetText sets → IsPlain (sets_data sets)

@@ -34,7 +34,7 @@ use Rattle.desk_words.specs.ReplyTexts.{whole, texts_data}
 use Rattle.desk_words.specs.RequestTexts.{mark_name, side_data, register_data, ledger_data, record_data, set_data, sets_data, manual_frame, manual_members, balance_frame, balance_members, request_data, request_text}
 use Rattle.desk_words.specs.WellFormed.{IsCode, IsName, IsSide, IsRecordText, IsSetText, IsManual, IsBalance, IsRequest}
 use Rattle.desk_words.proofs.Documents.{document-text}
-use Rattle.desk_words.proofs.PlainLemmas.{named, IsPlain-sets_data, depth-sets_data}
+use Rattle.desk_words.proofs.PlainLemmas.{IsPlain-sets_data, depth-sets_data}
 
 -- ---- lists, records and sets are read from their JSON
 
@@ -162,15 +162,15 @@ text-back ms plain shallow =
 IsPlain-manual : (m : Manual) → IsManual m → IsPlain (object (manual_frame m))
 unfolding manual_frame
 IsPlain-manual m h = (
-  named (codes "clerk") _ refl refl,
+  (IsUtf8-tested (codes "clerk") refl, refl),
   IsUtf8-name m.clerk h.clerk,
   (
-    named (codes "date") _ refl refl,
+    (IsUtf8-tested (codes "date") refl, refl),
     IsUtf8-date_text m.date,
     (
-      named (codes "no") _ refl refl,
+      (IsUtf8-tested (codes "no") refl, refl),
       omega (arith, h.last),
-      (named (codes "op") _ refl refl, IsUtf8-tested (codes "manual") refl, (named (codes "sets") _ refl refl, IsPlain-sets_data m.sets h.sets, tt)),
+      ((IsUtf8-tested (codes "op") refl, refl), IsUtf8-tested (codes "manual") refl, ((IsUtf8-tested (codes "sets") refl, refl), IsPlain-sets_data m.sets h.sets, tt)),
     ),
   ),
 )
@@ -180,23 +180,23 @@ unfolding manual_frame
 depth-manual m = omega (arith, depth-sets_data m.sets)
 
 manual_text-back : (m : Manual) → IsManual m → request_of_text (request_text (Manual_request (built m))) ≡ Ok (Manual_request (built m))
-unfolding request_text request_data manual_members
+unfolding request_text request_data manual_members manual_frame
 manual_text-back m h = text-back (manual_frame m) (IsPlain-manual m h) (depth-manual m) ∙ manual-back m h
 
 IsPlain-balance : (b : Balance) → IsBalance b → (cut : Option Cut) → IfSome cut IsCut → IsPlain (object (balance_members (asked b cut)))
 unfolding balance_members balance_frame
 IsPlain-balance b h None is = (
-  named (codes "clerk") _ refl refl,
+  (IsUtf8-tested (codes "clerk") refl, refl),
   IsUtf8-name b.clerk h.clerk,
-  (named (codes "op") _ refl refl, IsUtf8-tested (codes "balance") refl, (named (codes "register") _ refl refl, IsUtf8-name b.register h.register, tt)),
+  ((IsUtf8-tested (codes "op") refl, refl), IsUtf8-tested (codes "balance") refl, ((IsUtf8-tested (codes "register") refl, refl), IsUtf8-name b.register h.register, tt)),
 )
 IsPlain-balance b h (Some cut) is = (
-  named (codes "clerk") _ refl refl,
+  (IsUtf8-tested (codes "clerk") refl, refl),
   IsUtf8-name b.clerk h.clerk,
   (
-    named (codes "cut") _ refl refl,
+    (IsUtf8-tested (codes "cut") refl, refl),
     IsUtf8-cut_text cut is,
-    (named (codes "op") _ refl refl, IsUtf8-tested (codes "balance") refl, (named (codes "register") _ refl refl, IsUtf8-name b.register h.register, tt)),
+    ((IsUtf8-tested (codes "op") refl, refl), IsUtf8-tested (codes "balance") refl, ((IsUtf8-tested (codes "register") refl, refl), IsUtf8-name b.register h.register, tt)),
   ),
 )
 

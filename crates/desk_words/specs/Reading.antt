@@ -63,7 +63,8 @@ date_at m object = value_at m (member_name m) object >>= date_of m
 abbrev pub sets_at : Member → Members → Reads (List SetText)
 sets_at m object = value_at m (member_name m) object >>= sets_of m
 
-abbrev cut_if : Option Data → Reads (Option Cut)
+-- the cut that stands there, if one does
+abbrev pub cut_if : Option Data → Reads (Option Cut)
 cut_if None = Ok None
 cut_if (Some d) = cut_of Cut_word d >>= λ cut. Ok (Some cut)
 

@@ -36,7 +36,8 @@ abbrev pub side_from : Member → List (List ℕ) → Shaped Side
 side_from m [] = Err (BadMember m)
 side_from m (account ∷ extras) = Ok (record { account = account; extras = extras })
 
-abbrev side_if : Member → Option ⊤ → Data → Shaped (Option Side)
+-- the side, where it is not null
+abbrev pub side_if : Member → Option ⊤ → Data → Shaped (Option Side)
 side_if m (Some absent) d = Ok None
 side_if m None d = codes_of m d >>= λ codes. side_from m codes >>= λ side. Ok (Some side)
 
@@ -62,7 +63,8 @@ ledger_record m object = do
   debit ← value_at m (codes "debit") object >>= side_of m
   Ok (record { amount = amount; debit = debit; credit = credit })
 
-abbrev record_if : Member → Option Data → Members → Shaped RecordText
+-- a record, by whether it has an amount
+abbrev pub record_if : Member → Option Data → Members → Shaped RecordText
 record_if m (Some amount) object = ledger_record m object >>= λ r. Ok (Ledger r)
 record_if m None object = register_record m object >>= λ r. Ok (Register r)
 

@@ -13,6 +13,7 @@
 #![tactic(auto)]
 
 mod fault;
+mod laws;
 mod members;
 mod parsed;
 mod print;
@@ -26,6 +27,7 @@ mod shapes;
 mod tests;
 
 pub use fault::{Member, WordFault};
+pub use laws::requests_read_back;
 pub use reply::{Answer, Field, Limit, Refusal, Reply, post_fault_number};
 pub use request::{
     Balance, FilterText, LedgerText, Manual, RecordText, RegisterText, Request, SetText,

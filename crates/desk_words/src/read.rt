@@ -1,14 +1,17 @@
 //! From a line to a request.
+ghost use Rattle.std.specs.Prelude.{IfOk};
 ghost use Rattle.serde_json.specs.View.{members_view};
 ghost use Rattle.reg_base.specs.Results.{Gives, Says};
 ghost use Rattle.desk_words.specs.declared.fault.WordFault.TheVariants.{Memory, UnknownMember};
 ghost use Rattle.desk_words.specs.Reading.{operation_of, check_present, check_known, name_at, number_at, date_at, sets_at, cut_at, manual_of, balance_of, members_of, request_in, request_of_text, request};
+ghost use Rattle.desk_words.specs.WellFormed.{IsRequest};
 
 use crate::fault::{Member, WordFault};
 use crate::members::{Operation, first_missing, first_unknown};
 use crate::parsed::{Object, document, member};
 use crate::request::{Balance, Manual, Request, SetText};
 use crate::shapes::{cut_of, date_of, name_of, number_of, sets_of, value_at};
+use json_laws::value_has_utf8;
 use reg_base::{Cut, Date, List, Name, Text};
 use reg_io::Line;
 use std::alloc::Global;
@@ -16,7 +19,8 @@ use std::alloc::Global;
 impl Request {
     /// The request that a line is, or its first fault.
     pub fn read(alloc: Global, line: &Line) -> Result<Request, WordFault>
-        ensures { Gives Memory result (request line.now) }
+        ensures value { Gives Memory result (request line.now) }
+        ensures well_formed { IfOk result IsRequest }
     {
         match line {
             Line::TooLong { bytes } => Err(WordFault::TooLong { bytes: *bytes }),
@@ -27,9 +31,11 @@ impl Request {
     /// The request that the text of a line is, however long the line.
     #[tactic(auto, unfolding(crate::specs::Reading::request_of_text))]
     pub fn read_text(alloc: Global, bytes: &[u8]) -> Result<Request, WordFault>
-        ensures { Gives Memory result (request_of_text bytes.now) }
+        ensures value { Gives Memory result (request_of_text bytes.now) }
+        ensures well_formed { IfOk result IsRequest }
     {
         let document = document(alloc, bytes)?;
+        value_has_utf8(&document);
         let Some(object) = document.as_object() else {
             return Err(WordFault::NotObject);
         };
