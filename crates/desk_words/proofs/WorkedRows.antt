@@ -3,8 +3,8 @@ use Rattle.std.proofs.Common.{◌≡◌, ℕ, List, [], ◌∷◌, None, Some, O
 use Rattle.serde_json.specs.Data.{Data, null, boolean, string, number, unsigned, array, object, item, no_items, member, no_members}
 use Rattle.json.specs.Print.{escape_byte}
 use Rattle.reg_base.specs.Codes.{is_name}
-use Rattle.reg_base.specs.Cuts.{parse_cut, cut_by_word, cut_through, cut_before}
-use Rattle.reg_base.specs.Dates.{parse_date}
+use Rattle.reg_base.specs.Cuts.{parse_cut, cut_by_word, cut_through, cut_before, cut_text}
+use Rattle.reg_base.specs.Dates.{parse_date, date_text}
 use Rattle.reg_base.specs.Numbers.{sum_text, units_text, number_text}
 use Rattle.reg_base.specs.declared.cut.Cut.TheVariants.{ThroughDate}
 use Rattle.reg_base.specs.declared.records.Mark.TheVariants.{Receipt}
@@ -13,7 +13,7 @@ use Rattle.reg_base.specs.declared.value.Value.TheVariants.{Code}
 use Rattle.desk_words.specs.declared.fault.Member.TheVariants.{Op, Clerk, Sets, Cut as Cut_word}
 use Rattle.desk_words.specs.declared.fault.WordFault.TheVariants.{UnknownOp, Missing, UnknownMember, BadMember}
 use Rattle.desk_words.specs.declared.request.Request.TheVariants.{Manual, Balance}
-use Rattle.desk_words.specs.declared.request.RecordText.TheVariants.{Register}
+use Rattle.desk_words.specs.declared.request.RecordText.TheVariants.{Register, Ledger}
 use Rattle.desk_words.specs.declared.reply.Reply.TheVariants.{Done}
 use Rattle.desk_words.specs.declared.reply.Answer.TheVariants.{Document, Balance as Rows}
 use Rattle.desk_words.specs.declared.reply.Refusal.TheVariants.{BadLine, Limit as LimitPassed}
@@ -21,6 +21,7 @@ use Rattle.desk_words.specs.declared.reply.Limit.TheVariants.{Numbers}
 use Rattle.desk_words.specs.Shapes.{value_at, object_of, items_of, text_of, name_of, date_of, cut_of, number_of, texts_of}
 use Rattle.desk_words.specs.Sets.{mark_of, register_record, record_of, records_of, set_of, sets_of}
 use Rattle.desk_words.specs.Reading.{operation_of, check_present, check_known, cut_at, manual_of, balance_of, members_of, request_in}
+use Rattle.desk_words.specs.RequestTexts.{register_data, ledger_data, set_data, sets_data, manual_frame, manual_members, balance_frame, balance_members, request_data, request_text}
 use Rattle.desk_words.specs.ReplyTexts.{texts_data, row_data, rows_data, document_data, answer_data, word_fault_members, refusal_detail, refusal_data, reply_data, reply_text}
 
 abbrev receipt_of_nails : Data
@@ -157,3 +158,62 @@ numbers_used_up :
     (member (codes "which") (string (codes "numbers")) no_members))))
 unfolding refusal_data refusal_detail
 numbers_used_up = refl
+
+-- the canonical text of the manual document above is its line
+a_manual_text : (seconds : ℕ) → date_text seconds ≡ morning →
+    request_data (Manual (record {
+      clerk = codes "anna";
+      no = 1;
+      doc = None;
+      key = None;
+      date = seconds;
+      sets = (record {
+        space = codes "goods";
+        records = Register (record {
+          mark = Receipt;
+          sums = codes "10.000" ∷ codes "50.00" ∷ [];
+          values = codes "nail" ∷ [];
+        }) ∷ [];
+      }) ∷ [];
+      comment = None;
+      tx = None;
+    }))
+    ≡ object (member (codes "clerk") (string (codes "anna"))
+    (member (codes "date") (string morning)
+    (member (codes "no") (number (unsigned 1))
+    (member (codes "op") (string (codes "manual"))
+    (member (codes "sets") sets_of_nails no_members)))))
+unfolding request_data manual_members manual_frame sets_data set_data register_data texts_data
+a_manual_text seconds is = rw is
+
+-- members that may be absent stand in byte order among the others
+a_repost_text :
+    request_data (Manual (record { clerk = codes "anna"; no = 1; doc = Some 7; key = None; date = 0; sets = []; comment = None; tx = Some 2 }))
+    ≡ object (member (codes "clerk") (string (codes "anna"))
+    (member (codes "date") (string (date_text 0))
+    (member (codes "doc") (number (unsigned 7))
+    (member (codes "no") (number (unsigned 1))
+    (member (codes "op") (string (codes "manual"))
+    (member (codes "sets") (array no_items)
+    (member (codes "tx") (number (unsigned 2)) no_members)))))))
+unfolding request_data manual_members manual_frame sets_data
+a_repost_text = refl
+
+a_balance_text :
+    request_text (Balance (record { clerk = codes "anna"; register = codes "goods"; filter = None; group = None; cut = None; tx = None }))
+    ≡ codes "{\"clerk\":\"anna\",\"op\":\"balance\",\"register\":\"goods\"}"
+unfolding request_text request_data balance_members balance_frame escape_byte
+a_balance_text = refl
+
+a_posting_text :
+    request_data (Manual (record { clerk = codes "anna"; no = 1; doc = None; key = None; date = 0; sets = (record { space = codes "main"; records = Ledger (record { amount = codes "5"; debit = None; credit = Some (record { account = codes "60"; extras = codes "x" ∷ [] }) }) ∷ [] }) ∷ []; comment = None; tx = None }))
+    ≡ object (member (codes "clerk") (string (codes "anna"))
+    (member (codes "date") (string (date_text 0))
+    (member (codes "no") (number (unsigned 1))
+    (member (codes "op") (string (codes "manual"))
+    (member (codes "sets") (array (item (object (member (codes "records") (array (item (object (member (codes "amount") (string (codes "5"))
+    (member (codes "credit") (array (item (string (codes "60")) (item (string (codes "x")) no_items)))
+    (member (codes "debit") null no_members)))) no_items))
+    (member (codes "space") (string (codes "main")) no_members))) no_items)) no_members)))))
+unfolding request_data manual_members manual_frame sets_data set_data ledger_data texts_data
+a_posting_text = refl
