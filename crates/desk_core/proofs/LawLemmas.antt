@@ -21,11 +21,11 @@ use Rattle.desk_words.specs.declared.reply.Refusal.TheVariants.{UnknownClerk, Ba
 use Rattle.desk_words.specs.declared.reply.Field.TheVariants.{Register as RegisterField}
 use Rattle.desk_words.specs.Reading.{request}
 use Rattle.desk_core.specs.State.{Setting, State, Desk}
-use Rattle.desk_core.specs.Meanings.{everything, look_balance, Look}
-use Rattle.desk_core.specs.Serial.{read_answer, read_effect, effect_of, is_clerk}
-use Rattle.desk_core.specs.Desk.{event_of, step}
-use Rattle.desk_core.specs.Answers.{event_of_reading, line_event, desk_after}
-use Rattle.desk_core.specs.Laws.{IsBalance, BalancesHold}
+use Rattle.desk_core.specs.Meanings.{everything, look_balance, Look, meaning_of}
+use Rattle.desk_core.specs.Serial.{Effect, read_answer, read_effect, effect_of, is_clerk, is_batch}
+use Rattle.desk_core.specs.Desk.{Event, event_of, step}
+use Rattle.desk_core.specs.Answers.{is_blank, refused_event, event_of_reading, line_event, line_desk, desk_after}
+use Rattle.desk_core.specs.Laws.{IsBalance, BalancesHold, IsRefusal, RefusalKeeps}
 
 module _ (setting : Setting) (desk : Desk) (b : BalanceRequest) (rows : List SumRow) (scales : List ℕ) where
   -- the look at a register that was found
@@ -76,8 +76,39 @@ module _ (setting : Setting) (desk : Desk) (b : BalanceRequest) (rows : List Sum
 -- a line that is a balance is answered by one
 line-IsBalance : (setting : Setting) (desk : Desk) (line : Line) (b : BalanceRequest) (rows : List SumRow) (scales : List ℕ) → request line ≡ Ok (Balance b) → (line_event setting desk line).reply ≡ Done (BalanceAnswer rows scales) → IsBalance setting desk b rows
 line-IsBalance setting desk line b rows scales is h =
-    step-IsBalance setting desk b rows scales
-    (ap (λ (r : Result Request WordFault). (event_of_reading setting desk r).reply) (sym is) ∙ h)
+    at (is_batch b.clerk) (ap (λ (r : Result Request WordFault). (event_of_reading setting desk r).reply) (sym is) ∙ h)
+  where
+    at : (batch : Bool) → (cond batch (refused_event desk UnknownClerk) (step setting desk (Balance b))).reply ≡ Done (BalanceAnswer rows scales) → IsBalance setting desk b rows
+    at true e = cc
+    at false e = step-IsBalance setting desk b rows scales e
 
 pub BalancesHold-always : (setting : Setting) (desk : Desk) (lines : List Line) → BalancesHold setting desk lines
 BalancesHold-always setting desk lines = λ before after line b rows scales place is h. line-IsBalance setting (desk_after setting desk before) line b rows scales is h
+
+-- ---- refusals
+
+event_of-refusal : (desk : Desk) (r : Request) (effect : Result Effect Refusal) → IsRefusal (event_of desk r effect).reply → (event_of desk r effect).desk ≡ desk
+event_of-refusal desk r (Ok effect) h = absurd h
+event_of-refusal desk r (Err refusal) h = refl
+
+-- a request that is refused leaves the desk
+pub step-refusal : (setting : Setting) (desk : Desk) (r : Request) → IsRefusal (step setting desk r).reply → (step setting desk r).desk ≡ desk
+unfolding step
+step-refusal setting desk r h = event_of-refusal desk r (effect_of setting desk.serial r) h
+
+event-refusal : (setting : Setting) (desk : Desk) (reading : Result Request WordFault) → IsRefusal (event_of_reading setting desk reading).reply → (event_of_reading setting desk reading).desk ≡ desk
+event-refusal setting desk (Ok r) h = at (is_batch (meaning_of setting.config r).clerk) h
+  where
+    at : (batch : Bool) → IsRefusal (cond batch (refused_event desk UnknownClerk) (step setting desk r)).reply → (cond batch (refused_event desk UnknownClerk) (step setting desk r)).desk ≡ desk
+    at true e = refl
+    at false e = step-refusal setting desk r e
+event-refusal setting desk (Err fault) h = refl
+
+-- so does a line
+pub RefusalKeeps-always : (setting : Setting) (desk : Desk) (line : Line) → RefusalKeeps setting desk line
+unfolding line_desk
+RefusalKeeps-always setting desk line = λ h. at (is_blank line) (event-refusal setting desk (request line) h)
+  where
+    at : (blank : Bool) → (line_event setting desk line).desk ≡ desk → cond blank desk (line_event setting desk line).desk ≡ desk
+    at true e = refl
+    at false e = e

@@ -7,10 +7,13 @@ use Rattle.reg_io.specs.Lines.{lines_of}
 use Rattle.desk_words.specs.declared.request.Request.{Request}
 use Rattle.desk_words.specs.declared.fault.WordFault.{WordFault}
 use Rattle.desk_words.specs.declared.reply.Reply.TheVariants.{Refused}
-use Rattle.desk_words.specs.declared.reply.Refusal.TheVariants.{BadLine}
+use Rattle.desk_words.specs.declared.reply.Refusal.{Refusal}
+use Rattle.desk_words.specs.declared.reply.Refusal.TheVariants.{BadLine, UnknownClerk}
 use Rattle.desk_words.specs.Reading.{request}
 use Rattle.desk_words.specs.ReplyTexts.{reply_text}
 use Rattle.desk_core.specs.State.{Setting, Desk}
+use Rattle.desk_core.specs.Meanings.{meaning_of}
+use Rattle.desk_core.specs.Serial.{is_batch}
 use Rattle.desk_core.specs.Desk.{Event, step}
 
 -- whether a line has nothing but spaces and tabs
@@ -18,15 +21,20 @@ abbrev pub is_blank : Line → Bool
 is_blank (Text bytes) = list_all (λ b. b == 32 || b == 9) bytes
 is_blank (TooLong bytes) = false
 
--- a line that is a request is one step, and any other is refused and changes nothing
+-- what is refused changes nothing
+abbrev pub refused_event : Desk → Refusal → Event
+refused_event desk refusal = record { reply = Refused refusal; desk = desk; commits = [] }
+
+-- what a line's request comes to: one step, but no line speaks for the clerk that is built in
+abbrev pub event_of_request : Setting → Desk → Request → Event
+event_of_request setting desk request =
+    if is_batch (meaning_of setting.config request).clerk then refused_event desk UnknownClerk
+    else step setting desk request
+
+-- what a reading comes to: its request, or the refusal of a line that is none
 abbrev pub event_of_reading : Setting → Desk → Result Request WordFault → Event
-event_of_reading setting desk (Ok request) = step setting desk request
-event_of_reading setting desk (Err fault) = record {
-  reply = Refused
-      (BadLine fault);
-  desk = desk;
-  commits = [];
-}
+event_of_reading setting desk (Ok request) = event_of_request setting desk request
+event_of_reading setting desk (Err fault) = refused_event desk (BadLine fault)
 
 -- what a line that is not blank comes to
 abbrev pub line_event : Setting → Desk → Line → Event

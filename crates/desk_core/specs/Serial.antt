@@ -1,6 +1,7 @@
 -- The serial machine: what one request does to the documents.
-use Rattle.std.specs.Prelude.{ℕ, ◌+◌, pos, Bool, not, nat_lt, nat_le, Option, Some, None, is_some, List, [], ◌∷◌, filter, length, Result, Ok, Err}
+use Rattle.std.specs.Prelude.{ℕ, ◌+◌, pos, Bool, not, ◌||◌, codes, nat_lt, nat_le, Option, Some, None, is_some, List, [], ◌∷◌, filter, length, Result, Ok, Err}
 use Rattle.std.specs.List.{list_any}
+use Rattle.std.specs.Str.{bytes_eq}
 use Rattle.std.specs.Ordering.{nat_cmp, int_eq, match_ordering}
 use Rattle.reg_base.specs.declared.records.Rec.{Rec}
 use Rattle.reg_base.specs.declared.records.Document.{Document}
@@ -122,11 +123,15 @@ deed_effect state (changes plan) = change_work state plan >>= λ work. Ok (chang
 deed_effect state (reads_register look) = read_answer state look >>= λ answer. Ok
     (read_effect state answer)
 
--- whether the configuration has the clerk
-abbrev pub is_clerk : Config → List ℕ → Bool
-is_clerk config name = is_some (clerk_place name config.clerks)
+-- whether a name is that of the clerk that is built in
+abbrev pub is_batch : List ℕ → Bool
+is_batch name = bytes_eq name (codes "batch")
 
--- the effect of a request, or the first refusal: the clerk is known, then its deed
+-- whether there is such a clerk: the configuration has it, or it is built in
+abbrev pub is_clerk : Config → List ℕ → Bool
+is_clerk config name = is_batch name || is_some (clerk_place name config.clerks)
+
+-- the effect of a request, or the first refusal: there is such a clerk, then its deed
 unfoldable pub effect_of : Setting → State → Request → Result Effect Refusal
 effect_of setting state request = do
   _ ← unless (is_clerk setting.config (meaning_of setting.config request).clerk) UnknownClerk

@@ -11,8 +11,10 @@ ghost use Rattle.desk_words.specs.declared.request.Request.TheVariants as Reques
 ghost use Rattle.desk_core.specs.State.{first_desk};
 ghost use Rattle.desk_core.specs.Opened.{Steps, IsNext, desk_with, outcome_of};
 ghost use Rattle.desk_core.specs.Meanings.{plan_manual, look_balance, manual_doc as manual_doc_of};
-ghost use Rattle.desk_core.specs.Serial.{change_work, read_answer, answer_of as answer_of_work};
+ghost use Rattle.desk_core.specs.Serial.{change_work, read_answer, is_clerk, answer_of as answer_of_work};
+ghost use Rattle.desk_core.specs.Laws.{IsRefusal};
 
+use crate::clerks::is_batch;
 use crate::given::wrong;
 use crate::making::make_sets;
 use crate::manual::given_of;
@@ -21,7 +23,7 @@ use crate::tried::Tried;
 use crate::work::{Outcome, Work};
 use cfg_model::{Config, Resource};
 use desk_words::{Answer, Balance, Field, Limit, Manual, Refusal, Reply, Request};
-use reg_base::{Comment, Cut, Date, Doc, DocState, Document, List, Memory, Scale, Sets};
+use reg_base::{Comment, Cut, Date, Doc, DocState, Document, List, Memory, Name, Scale, Sets};
 use std::alloc::Global;
 use std::marker::Model;
 
@@ -77,11 +79,21 @@ impl Desk {
     /// as it was.
     pub fn step(&mut self, alloc: Global, request: &Request) -> Result<Reply, StepEnd>
         ensures ok { IfOk result (λ reply. Steps self.old request.now reply self.new) }
+
+        // A refusal changes nothing.
+        ensures refused { IfOk result (λ reply. IsRefusal reply → self.new ≡ self.old) }
         ensures err { OnErr result (self.new ≡ self.old) }
     {
         let Outcome { reply, work } = self.outcome(alloc, request)?;
         self.take_over(work)?;
         Ok(reply)
+    }
+
+    /// Whether there is such a clerk.
+    fn has_clerk(&self, name: &Name) -> bool
+        ensures { result ≡ is_clerk self.now.setting.config name.now }
+    {
+        is_batch(name) || self.config.clerk_place(name).is_some()
     }
 
     /// What the request comes to, before its work is taken over.
@@ -100,7 +112,7 @@ impl Desk {
         ensures { IfOk result (λ outcome. outcome
             ≡ outcome_of self.now (RequestIs.Manual manual.now)) }
     {
-        if self.config.clerk_place(&manual.clerk).is_none() {
+        if !self.has_clerk(&manual.clerk) {
             return Ok(refused(Refusal::UnknownClerk));
         }
         match self.work_of(alloc, manual)? {
@@ -117,7 +129,7 @@ impl Desk {
         ensures { IfOk result (λ outcome. outcome
             ≡ outcome_of self.now (RequestIs.Balance balance.now)) }
     {
-        if self.config.clerk_place(&balance.clerk).is_none() {
+        if !self.has_clerk(&balance.clerk) {
             return Ok(refused(Refusal::UnknownClerk));
         }
         match self.answer_balance(alloc, balance)? {
@@ -195,7 +207,7 @@ impl Desk {
     }
 }
 
-fn refused(refusal: Refusal) -> Outcome
+pub(crate) fn refused(refusal: Refusal) -> Outcome
     ensures { result ≡ record { reply = Reply.Refused refusal; work = None } }
 {
     Outcome {

@@ -12,6 +12,7 @@
 //! Leaves open: when memory is wanted.
 #![tactic(auto)]
 
+mod clerks;
 mod desk;
 mod given;
 mod laws;
@@ -25,7 +26,7 @@ mod work;
 
 pub use desk::{Desk, StepEnd};
 pub use given::Given;
-pub use laws::balances_are_sums;
+pub use laws::{balances_are_sums, refusals_change_nothing};
 pub use line::answer_line;
 pub use manual::GivenSet;
 pub use work::{Outcome, Work};

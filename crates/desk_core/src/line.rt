@@ -3,9 +3,10 @@ ghost use Rattle.std.specs.Prelude.{◌≡◌, ◌==◌, ◌||◌, ◌++◌, ◌
 ghost use Rattle.std.specs.List.{list_all};
 ghost use Rattle.desk_words.specs.ReplyTexts.{reply_text};
 ghost use Rattle.desk_core.specs.Answers.{is_blank as is_blank_line};
-ghost use Rattle.desk_core.specs.Lines.{AnswersLine, outcome_of_line};
+ghost use Rattle.desk_core.specs.Lines.{AnswersLine, outcome_of_line, outcome_of_request};
 
-use crate::desk::{Desk, StepEnd};
+use crate::clerks::{clerk_of, is_batch};
+use crate::desk::{Desk, StepEnd, refused};
 use crate::work::Outcome;
 use desk_words::{Refusal, Reply, Request, WordFault};
 use reg_base::Memory;
@@ -49,13 +50,20 @@ fn line_outcome(alloc: Global, desk: &Desk, line: &Line) -> Result<Outcome, Memo
     ensures { IfOk result (λ outcome. outcome ≡ outcome_of_line desk.now line.now) }
 {
     match Request::read(alloc, line) {
-        Ok(request) => desk.outcome(alloc, &request),
+        Ok(request) => request_outcome(alloc, desk, &request),
         Err(WordFault::Memory) => Err(Memory),
-        Err(fault) => Ok(Outcome {
-            reply: Reply::Refused(Refusal::BadLine(fault)),
-            work: None,
-        }),
+        Err(fault) => Ok(refused(Refusal::BadLine(fault))),
     }
+}
+
+/// What a line's request comes to: no line speaks for the clerk that is built in.
+fn request_outcome(alloc: Global, desk: &Desk, request: &Request) -> Result<Outcome, Memory>
+    ensures { IfOk result (λ outcome. outcome ≡ outcome_of_request desk.now request.now) }
+{
+    if is_batch(clerk_of(request)) {
+        return Ok(refused(Refusal::UnknownClerk));
+    }
+    desk.outcome(alloc, request)
 }
 
 /// The text of a reply with a line feed.
