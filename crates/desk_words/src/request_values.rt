@@ -116,11 +116,7 @@ fn put_key(alloc: Global, members: &mut Object, key: Option<Code>) -> Result<(),
     Ok(())
 }
 
-fn put_comment(
-    alloc: Global,
-    members: &mut Object,
-    comment: &Option<Comment>,
-) -> Result<(), Memory>
+fn put_comment(alloc: Global, members: &mut Object, comment: &Option<Comment>) -> Result<(), Memory>
     ensures { OnOk result (members_view members.new.entries
         ≡ put_if (codes "comment") (option_map string comment.now)
         (members_view members.old.entries)) }
@@ -142,17 +138,18 @@ fn put_cut(alloc: Global, members: &mut Object, cut: Option<Cut>) -> Result<(), 
     Ok(())
 }
 
-fn put_group(
-    alloc: Global,
-    members: &mut Object,
-    group: &Option<List<Name>>,
-) -> Result<(), Memory>
+fn put_group(alloc: Global, members: &mut Object, group: &Option<List<Name>>) -> Result<(), Memory>
     ensures { OnOk result (members_view members.new.entries
         ≡ put_if (codes "group") (option_map texts_data group.now)
         (members_view members.old.entries)) }
 {
     if let Some(group) = group {
-        put(members, alloc, "group", names_value(alloc, group.as_slice())?)?;
+        put(
+            members,
+            alloc,
+            "group",
+            names_value(alloc, group.as_slice())?,
+        )?;
     }
     Ok(())
 }
@@ -167,7 +164,12 @@ fn put_filter(
         (members_view members.old.entries)) }
 {
     if let Some(filter) = filter {
-        put(members, alloc, "filter", filters_value(alloc, filter.as_slice())?)?;
+        put(
+            members,
+            alloc,
+            "filter",
+            filters_value(alloc, filter.as_slice())?,
+        )?;
     }
     Ok(())
 }

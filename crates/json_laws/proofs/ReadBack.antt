@@ -129,7 +129,7 @@ read-compact_text d plain shallow =
     let j = outline d in
     let ts = tree.json_tokens j in
     let same : tokens (compact_text d) ≡ ts ++ [] =
-      ap tokens (sym (print-outline d)) ∙ tokens-print ts (ArePrintable-json_tokens j (HasNumbers-outline d plain)) ∙ sym (append-nil ts) in
+    ap tokens (sym (print-outline d)) ∙ tokens-print ts (ArePrintable-json_tokens j (HasNumbers-outline d plain)) ∙ sym (append-nil ts) in
     ap (λ t. option_and_then of_json (option_and_then (λ p. json.if_last p.0 p.1) (json.value max_depth t))) same
     ∙ ap (λ r. option_and_then of_json (option_and_then (λ p. json.if_last p.0 p.1) r)) (value-json_tokens j max_depth [] (omega (arith, depth-outline d)))
     ∙ of_json-outline d plain

@@ -45,11 +45,11 @@ IsUtf8-date_text date =
     let day = day_of date in
     let s = date % 86400 in
     let front : IsUtf8 (last_digits 4 day.year ++ (45 ∷ last_digits 2 day.month) ++ (45 ∷ last_digits 2 day.day)) =
-      IsUtf8-append (last_digits 4 day.year) _ (IsUtf8-digits (last_digits 4 day.year) (all_digits-last_digits 4 day.year))
-      (IsUtf8-append (45 ∷ last_digits 2 day.month) _ (marked 45 2 day.month refl) (marked 45 2 day.day refl)) in
+    IsUtf8-append (last_digits 4 day.year) _ (IsUtf8-digits (last_digits 4 day.year) (all_digits-last_digits 4 day.year))
+    (IsUtf8-append (45 ∷ last_digits 2 day.month) _ (marked 45 2 day.month refl) (marked 45 2 day.day refl)) in
     let back : IsUtf8 ((84 ∷ last_digits 2 (s / 3600)) ++ (58 ∷ last_digits 2 (s / 60 % 60)) ++ (58 ∷ last_digits 2 (s % 60))) =
-      IsUtf8-append (84 ∷ last_digits 2 (s / 3600)) _ (marked 84 2 (s / 3600) refl)
-      (IsUtf8-append (58 ∷ last_digits 2 (s / 60 % 60)) _ (marked 58 2 (s / 60 % 60) refl) (marked 58 2 (s % 60) refl)) in
+    IsUtf8-append (84 ∷ last_digits 2 (s / 3600)) _ (marked 84 2 (s / 3600) refl)
+    (IsUtf8-append (58 ∷ last_digits 2 (s / 60 % 60)) _ (marked 58 2 (s / 60 % 60) refl) (marked 58 2 (s % 60) refl)) in
     IsUtf8-append (day_text day) (second_text s) front back
 
 pub IsUtf8-point_text : (point : Point) → IsPoint point → IsUtf8 (point_text point)

@@ -13,7 +13,15 @@
 
 mod complaint;
 mod desk_main;
+#[cfg(test)]
+mod failing_table;
 mod fault;
+#[cfg(test)]
+mod field_rows;
+#[cfg(test)]
+mod line_rows;
+#[cfg(test)]
+mod line_table;
 mod program;
 mod run;
 #[cfg(test)]

@@ -12,29 +12,29 @@ use std::alloc::Global;
 use std::test::Fail;
 use std::thread::Threads;
 
-const SHOP: &str = "[register.goods]\nkind = \"balance\"\ndimensions = [\"item:code\"]\n\
+pub(crate) const SHOP: &str = "[register.goods]\nkind = \"balance\"\ndimensions = [\"item:code\"]\n\
 resources = [\"quantity:3\", \"amount:2\"]\n\n[clerk.anna]\nrights = [\"manual\", \"read\"]\n";
 
-const RECEIPT: &str = "{\"clerk\":\"anna\",\"date\":\"2024-01-10T09:00:00\",\"no\":1,\
+pub(crate) const RECEIPT: &str = "{\"clerk\":\"anna\",\"date\":\"2024-01-10T09:00:00\",\"no\":1,\
 \"op\":\"manual\",\"sets\":[{\"records\":[{\"kind\":\"receipt\",\
 \"sums\":[\"10.000\",\"50.00\"],\"values\":[\"nail\"]}],\"space\":\"goods\"}]}";
 
-const POSTED: &str = "{\"ok\":{\"active\":true,\"doc\":1,\"state\":\"posted\"}}\n";
+pub(crate) const POSTED: &str = "{\"ok\":{\"active\":true,\"doc\":1,\"state\":\"posted\"}}\n";
 
-const NO_ROWS: &str = "{\"ok\":{\"rows\":[]}}\n";
+pub(crate) const NO_ROWS: &str = "{\"ok\":{\"rows\":[]}}\n";
 
-const NAILS: &str =
+pub(crate) const NAILS: &str =
     "{\"ok\":{\"rows\":[{\"group\":[\"nail\"],\"sums\":[\"10.000\",\"50.00\"]}]}}\n";
 
 /// What a top call left: its status, its output, and its line on the error output.
 #[derive(Drop)]
-struct Told {
-    status: u8,
-    out: String,
-    line: String,
+pub(crate) struct Told {
+    pub(crate) status: u8,
+    pub(crate) out: String,
+    pub(crate) line: String,
 }
 
-fn shelf(alloc: Global, config: &str) -> Result<MemoryShelf, Fail> {
+pub(crate) fn shelf(alloc: Global, config: &str) -> Result<MemoryShelf, Fail> {
     let mut files = List::new(alloc);
     files.push((
         Text::from_str(alloc, "shop.toml")?,
@@ -43,15 +43,15 @@ fn shelf(alloc: Global, config: &str) -> Result<MemoryShelf, Fail> {
     Ok(MemoryShelf::new(files))
 }
 
-fn source(alloc: Global, input: &[u8], chunk: usize) -> Result<MemorySource, Fail> {
+pub(crate) fn source(alloc: Global, input: &[u8], chunk: usize) -> Result<MemorySource, Fail> {
     Ok(MemorySource::new(List::from_slice(alloc, input)?, chunk.max(1)))
 }
 
-fn calls(alloc: Global, numbers: &[u64]) -> Result<FailingCalls, Fail> {
+pub(crate) fn calls(alloc: Global, numbers: &[u64]) -> Result<FailingCalls, Fail> {
     Ok(FailingCalls::new(List::from_slice(alloc, numbers)?))
 }
 
-fn words(alloc: Global, all: &[&str]) -> Result<Vec<String>, Fail> {
+pub(crate) fn words(alloc: Global, all: &[&str]) -> Result<Vec<String>, Fail> {
     let mut words = Vec::new(alloc);
     for word in all {
         words.push(String::from_str(alloc, word)?)?;
@@ -60,7 +60,7 @@ fn words(alloc: Global, all: &[&str]) -> Result<Vec<String>, Fail> {
 }
 
 /// Runs the words, and tells what was left.
-fn call<R: Threads + Sync, F: Shelf, S: Source>(
+pub(crate) fn call<R: Threads + Sync, F: Shelf, S: Source>(
     rt: &R,
     alloc: Global,
     all: &[&str],
@@ -91,7 +91,7 @@ fn call<R: Threads + Sync, F: Shelf, S: Source>(
 }
 
 /// The output of a run of the shop that ends well, its input read in pieces of this size.
-fn answered<R: Threads + Sync>(
+pub(crate) fn answered<R: Threads + Sync>(
     rt: &R,
     alloc: Global,
     input: &[u8],
