@@ -119,12 +119,14 @@ fn bytes_of_calls(mut calls: usize) -> usize {
 fn a_failed_write_leaves_a_front_of_the_answers(rt: HostRuntime) -> Result<(), Fail> {
     let alloc = rt.alloc();
     let all = first_replies(alloc, 5)?;
-    let mut number = 1_u64;
-    for made in 0..200 {
-        let mut out = sink(alloc, &[number])?;
+    for number in 1..=200_usize {
+        let mut out = sink(alloc, &[number as u64])?;
         let mut err = sink(alloc, &[])?;
         let status = run_to(&rt, alloc, SHOP, &mut out, &mut err)?;
-        let want = all.as_bytes().get(..bytes_of_calls(made)).ok_or("a front")?;
+        let want = all
+            .as_bytes()
+            .get(..bytes_of_calls(number - 1))
+            .ok_or("a front")?;
         assert!(rt; out.sink.bytes.as_slice() == want, "at write {number}");
         if want.len() == all.len() {
             assert_eq!(rt; status, 0);
@@ -132,7 +134,6 @@ fn a_failed_write_leaves_a_front_of_the_answers(rt: HostRuntime) -> Result<(), F
         }
         assert_eq!(rt; status, 8, "at write {number}");
         assert!(rt; err.sink.bytes.as_slice() == b"regdesk: write\n".as_slice());
-        number += 1;
     }
     Err(Fail::new("no run is without a failed write"))
 }
@@ -154,19 +155,17 @@ fn a_file_that_cannot_be_read_leaves_nothing_written(rt: HostRuntime) -> Result<
 fn a_failed_write_of_the_line_changes_no_status(rt: HostRuntime) -> Result<(), Fail> {
     let alloc = rt.alloc();
     let line = b"regdesk: configuration: 4 Unknown x\n".as_slice();
-    let mut number = 1_u64;
-    for made in 0..200_usize {
+    for number in 1..=200_usize {
         let mut out = sink(alloc, &[])?;
-        let mut err = sink(alloc, &[number])?;
+        let mut err = sink(alloc, &[number as u64])?;
         assert_eq!(rt; run_to(&rt, alloc, "x = 1", &mut out, &mut err)?, 3);
         assert!(rt; out.sink.bytes.is_empty());
-        let taken = made.saturating_mul(PIECE).min(line.len());
+        let taken = (number - 1).saturating_mul(PIECE).min(line.len());
         let want = line.get(..taken).ok_or("a front")?;
         assert!(rt; err.sink.bytes.as_slice() == want, "at write {number}");
         if taken == line.len() {
             return Ok(());
         }
-        number += 1;
     }
     Err(Fail::new("no run is without a failed write"))
 }
