@@ -17,6 +17,8 @@ mod laws;
 mod members;
 mod parsed;
 mod print;
+#[cfg(test)]
+mod print_tests;
 mod read;
 mod reply;
 mod reply_values;

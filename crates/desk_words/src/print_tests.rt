@@ -1,0 +1,67 @@
+//! Requests with their canonical texts.
+use crate::Request;
+use std::alloc::Global;
+use std::test::Fail;
+
+/// Lines, each with the canonical text of its request.
+const TEXTS: &[(&str, &str)] = &[
+    (
+        "{\"op\":\"manual\",\"no\":1,\"date\":\"2024-01-10T09:00:00\",\"clerk\":\"anna\",\
+         \"sets\":[ {\"space\":\"goods\",\"records\":[{\"values\":[\"nail\"],\
+         \"sums\":[\"10.000\",\"50.00\"],\"kind\":\"receipt\"}]} ]}",
+        "{\"clerk\":\"anna\",\"date\":\"2024-01-10T09:00:00\",\"no\":1,\"op\":\"manual\",\
+         \"sets\":[{\"records\":[{\"kind\":\"receipt\",\"sums\":[\"10.000\",\"50.00\"],\
+         \"values\":[\"nail\"]}],\"space\":\"goods\"}]}",
+    ),
+    (
+        "{\"op\":\"manual\",\"no\":7,\"date\":\"2024-01-10\",\"clerk\":\"anna\",\
+         \"sets\":[{\"space\":\"main\",\"records\":[{\"debit\":[\"10\",\"a\"],\"credit\":null,\
+         \"amount\":\"x\\u0041\\n\"}]},{\"space\":\"goods\",\"records\":[]}]}",
+        "{\"clerk\":\"anna\",\"date\":\"2024-01-10T00:00:00\",\"no\":7,\"op\":\"manual\",\
+         \"sets\":[{\"records\":[{\"amount\":\"xA\\n\",\"credit\":null,\
+         \"debit\":[\"10\",\"a\"]}],\"space\":\"main\"},{\"records\":[],\"space\":\"goods\"}]}",
+    ),
+    (
+        "{\"register\":\"goods\",\"op\":\"balance\",\"clerk\":\"anna\"}",
+        "{\"clerk\":\"anna\",\"op\":\"balance\",\"register\":\"goods\"}",
+    ),
+    (
+        "{\"register\":\"goods\",\"op\":\"balance\",\"cut\":\"2024-01-11\",\"clerk\":\"anna\"}",
+        "{\"clerk\":\"anna\",\"cut\":\"before 2024-01-11T00:00:00\",\
+         \"op\":\"balance\",\"register\":\"goods\"}",
+    ),
+    (
+        "{\"register\":\"goods\",\"op\":\"balance\",\"cut\":\"now\",\"clerk\":\"anna\"}",
+        "{\"clerk\":\"anna\",\"cut\":\"now\",\"op\":\"balance\",\"register\":\"goods\"}",
+    ),
+    (
+        "{\"register\":\"goods\",\"op\":\"balance\",\
+         \"cut\":\"through 2024-01-11T09:00:00#12\",\"clerk\":\"anna\"}",
+        "{\"clerk\":\"anna\",\"cut\":\"through 2024-01-11T09:00:00#12\",\
+         \"op\":\"balance\",\"register\":\"goods\"}",
+    ),
+];
+
+/// The canonical text of the request that a line is, behind a mark.
+fn canonical(alloc: Global, line: &str) -> Result<String, Fail> {
+    let Ok(request) = Request::read_text(alloc, line.as_bytes()) else {
+        return Err("the line is no request")?;
+    };
+    let mut out = Vec::from_slice(alloc, b">")?;
+    request
+        .print(alloc, &mut out)
+        .ok()
+        .ok_or("memory was refused")?;
+    Ok(String::from_utf8(out).ok().ok_or("a request is no text")?)
+}
+
+#[test]
+fn a_request_has_its_canonical_text(rt: HostRuntime) -> Result<(), Fail> {
+    let alloc = rt.alloc();
+    for (line, text) in TEXTS {
+        let want = format!(in alloc; ">{text}")?;
+        assert_eq!(rt; canonical(alloc, line)?.as_str(), want.as_str());
+        assert_eq!(rt; canonical(alloc, text)?.as_str(), want.as_str());
+    }
+    Ok(())
+}
