@@ -1,4 +1,7 @@
 pub mod Steps
 pub mod Walks
-pub mod LimitLemmas
-mod WorkedRows
+pub mod ListLemmas
+pub mod RegisterLemmas
+pub mod SequenceLemmas
+pub mod ChartLemmas
+pub mod ConfigLemmas

@@ -5,7 +5,14 @@ use Rattle.toml.specs.View.{members_view}
 use Rattle.toml.proofs.Views.{Entry}
 use Rattle.toml.specs.Data.{Data, Members, no_members, member}
 use Rattle.reg_base.specs.Results.{◌>>=◌}
-use Rattle.cfg_model.specs.Walk.{member_count, each_entry}
+use Rattle.std.proofs.Common.{String, string_bytes, nat_cmp, Less, Global, map}
+use Rattle.std.specs.String.{string_cmp}
+use Rattle.std.specs.Map.{keys_of}
+use Rattle.std.specs.Cmp.Lexicographic.{slice_cmp}
+use Rattle.std.specs.List.{AllByRecursion}
+use Rattle.std.specs.List.Sorted.{IsStrictlySortedBy}
+use Rattle.cfg_model.specs.Resolving.{AreAscending}
+use Rattle.cfg_model.specs.Walk.{member_count, member_keys, each_entry}
 use Rattle.cfg_model.specs.declared.fault.CfgFault.{CfgFault}
 
 -- the elements in front of those that are left, where these are some
@@ -46,4 +53,33 @@ pub each_entry-none : {X : Type 0} (read : List ℕ → Data → Result X CfgFau
 unfolding each_entry
 each_entry-none read front = ap Ok (append-nil front)
 
-pub ruleset walks = (member_count-view, each_entry-member, each_entry-none)
+-- a name that was read goes from the keys that are left to the names in front
+pub names-more : {X : Type 0} (name_of : X → List ℕ) (front : List X) (x : X) (keys : List (List ℕ))
+    → map name_of (front ++ x ∷ []) ++ keys ≡ map name_of front ++ name_of x ∷ keys
+names-more name_of [] x keys = refl
+names-more name_of (y ∷ front) x keys = ap (λ names. name_of y ∷ names) (names-more name_of front x keys)
+
+-- where no key is left, the names in front are all
+pub names-all : (names : List (List ℕ)) → names ++ [] ≡ names
+names-all names = append-nil names
+
+below : (key : String Global) (es : List Entry)
+    → AllByRecursion (λ k. string_cmp key k ≡ Less) (keys_of es)
+    → AllByRecursion (λ k. slice_cmp nat_cmp (string_bytes key) k ≡ Less)
+    (member_keys (members_view es))
+below key [] h = tt
+below key (e ∷ es) h = (h.0, below key es h.1)
+
+-- the keys of a map ascend
+pub keys-ascend : (es : List Entry) → IsStrictlySortedBy string_cmp (keys_of es)
+    → AreAscending (member_keys (members_view es))
+unfolding IsStrictlySortedBy
+keys-ascend [] h = tt
+keys-ascend (e ∷ es) h = (below e.0 es h.0, keys-ascend es h.1)
+
+-- no text ascends
+pub none-ascend : AreAscending []
+unfolding IsStrictlySortedBy
+none-ascend = tt
+
+pub ruleset walks = (member_count-view, each_entry-member, each_entry-none, names-more)

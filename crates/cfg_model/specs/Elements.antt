@@ -1,10 +1,13 @@
--- What the texts in lists spell: dimensions, resources, rights.
-use Rattle.std.specs.Prelude.{ℕ, codes, ◌-◌, ◌==◌, ◌&&◌, nat_le, nat_lt, false, List, [], ◌∷◌, length, Option, Some, None, option_map, option_and_then, if◌then◌else◌}
-use Rattle.std.specs.List.{position_or_len, before_first, after_first}
+-- What the texts in a configuration spell: dimensions, resources, fields, names, rights, codes.
+use Rattle.std.specs.Prelude.{ℕ, codes, ◌-◌, ◌==◌, ◌&&◌, nat_le, nat_lt, true, false, List, [], ◌∷◌, length, Bool, Option, Some, None, option_map, option_and_then, if◌then◌else◌}
+use Rattle.std.specs.List.{position_or_len, before_first, after_first, list_all}
 use Rattle.std.specs.Str.{bytes_eq}
-use Rattle.reg_base.specs.Codes.{is_name}
+use Rattle.reg_base.specs.Codes.{is_name, is_code}
 use Rattle.cfg_model.specs.declared.register.Dimension.{Dimension}
 use Rattle.cfg_model.specs.declared.register.Resource.{Resource}
+use Rattle.cfg_model.specs.declared.kind.Field.{Field}
+use Rattle.cfg_model.specs.declared.account.Nature.{Nature}
+use Rattle.cfg_model.specs.declared.account.Nature.TheVariants.{Active, Passive, Both}
 use Rattle.cfg_model.specs.declared.clerk.Right.{Right}
 use Rattle.cfg_model.specs.declared.clerk.Right.TheVariants.{Write, Post, Manual, Read, Lock, Admin}
 
@@ -19,14 +22,23 @@ at_colon text =
 abbrev pub name_of : List ℕ → Option (List ℕ)
 name_of text = if is_name text then Some text else None
 
--- a dimension is spelled as its name, a colon and `code`
+-- the code, where the text is one
+abbrev pub code_of : List ℕ → Option (List ℕ)
+code_of text = if is_code text then Some text else None
+
+-- whether a dimension's word is that of lots or that of codes
+unfoldable pub lot_of : List ℕ → Option Bool
+lot_of word =
+    if bytes_eq word (codes "code") then Some false
+    else if bytes_eq word (codes "lot") then Some true
+    else None
+
+-- a dimension is spelled as its name, a colon, and `code` or `lot`
 unfoldable pub dimension_of : List ℕ → Option Dimension
 dimension_of text =
     option_and_then (λ parts.
     option_and_then (λ name.
-    if bytes_eq parts.1 (codes "code")
-    then Some (record { name = name; lot = false })
-    else None)
+    option_map (λ lot. record { name = name; lot = lot }) (lot_of parts.1))
     (name_of parts.0))
     (at_colon text)
 
@@ -43,6 +55,38 @@ resource_of text =
     option_map (λ scale. record { name = name; scale = scale }) (scale_of parts.1))
     (name_of parts.0))
     (at_colon text)
+
+-- what a field holds: a code, which has no scale, or a number of the scale that is spelled
+unfoldable pub field_scale_of : List ℕ → Option (Option ℕ)
+field_scale_of word =
+    if bytes_eq word (codes "code") then Some None else option_map Some (scale_of word)
+
+-- a field is spelled as its name, a colon, and `code` or its scale
+unfoldable pub field_of : List ℕ → Option Field
+field_of text =
+    option_and_then (λ parts.
+    option_and_then (λ name.
+    option_map (λ scale. record { name = name; scale = scale }) (field_scale_of parts.1))
+    (name_of parts.0))
+    (at_colon text)
+
+-- a byte that is printed: from the space to the tilde
+abbrev pub is_printable : ℕ → Bool
+is_printable b = nat_le 32 b && nat_le b 126
+
+-- the name of an account is 1 to 32 such bytes
+unfoldable pub account_name_of : List ℕ → Option (List ℕ)
+account_name_of text =
+    if nat_le 1 (length text) && (nat_le (length text) 32 && list_all is_printable text)
+    then Some text else None
+
+-- the side on which an account shows its net
+unfoldable pub nature_of : List ℕ → Option Nature
+nature_of word =
+    if bytes_eq word (codes "active") then Some Active
+    else if bytes_eq word (codes "passive") then Some Passive
+    else if bytes_eq word (codes "both") then Some Both
+    else None
 
 -- the word of a right
 unfoldable pub right_word : Right → List ℕ

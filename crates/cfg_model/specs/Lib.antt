@@ -2,6 +2,15 @@ pub mod Words
 pub mod Limits
 pub mod Elements
 pub mod Walk
-pub mod Reading
 pub mod Places
+pub mod Registers
+pub mod Accounts
+pub mod AccountMaps
+pub mod Ledgers
+pub mod Kinds
+pub mod Sequences
+pub mod Clerks
+pub mod Reading
+pub mod Resolving
+pub mod Entries
 pub mod FaultTexts

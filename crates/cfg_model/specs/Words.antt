@@ -19,12 +19,6 @@ first_unknown known no_members = None
 first_unknown known (member key d ms) =
     if is_one_of known key then first_unknown known ms else Some key
 
--- the first text that stands among those before it, given those seen already
-abbrev pub first_repeated : List (List ℕ) → List (List ℕ) → Option (List ℕ)
-first_repeated seen [] = None
-first_repeated seen (text ∷ more) =
-    if is_one_of seen text then Some text else first_repeated (seen ++ text ∷ []) more
-
 -- where an entry stands, as `register.stock`
 abbrev pub entry_path : List ℕ → List ℕ → List ℕ
 entry_path group name = group ++ (codes "." ++ name)
@@ -40,11 +34,29 @@ reserved_names =
 
 -- the keys of the top level
 abbrev pub group_keys : List (List ℕ)
-group_keys = codes "register" ∷ codes "clerk" ∷ []
+group_keys =
+    codes "register" ∷ codes "ledger" ∷ codes "document" ∷ codes "sequence" ∷ codes "clerk" ∷ []
 
 -- the keys of a register
 abbrev pub register_keys : List (List ℕ)
-register_keys = codes "kind" ∷ codes "dimensions" ∷ codes "resources" ∷ []
+register_keys = codes "kind" ∷ codes "dimensions" ∷ codes "resources" ∷ codes "split" ∷ []
+
+-- the keys of a ledger
+abbrev pub ledger_keys : List (List ℕ)
+ledger_keys = codes "scale" ∷ codes "split" ∷ codes "accounts" ∷ []
+
+-- the keys of an account
+abbrev pub account_keys : List (List ℕ)
+account_keys =
+    codes "code" ∷ codes "name" ∷ codes "kind" ∷ codes "off" ∷ codes "parent" ∷ codes "extras" ∷ []
+
+-- the keys of a document type
+abbrev pub document_keys : List (List ℕ)
+document_keys = codes "head" ∷ codes "lines" ∷ codes "rules" ∷ []
+
+-- the keys of a sequence
+abbrev pub sequence_keys : List (List ℕ)
+sequence_keys = codes "documents" ∷ codes "registers" ∷ codes "dimensions" ∷ []
 
 -- the keys of a clerk
 abbrev pub clerk_keys : List (List ℕ)

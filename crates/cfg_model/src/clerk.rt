@@ -1,14 +1,15 @@
 //! A clerk: who may ask for what.
-ghost use Rattle.std.specs.Prelude.{◌≡◌, codes};
+ghost use Rattle.std.specs.Prelude.{◌≡◌, codes, false};
 ghost use Rattle.toml.specs.View.{view, table_view};
 ghost use Rattle.reg_base.specs.Results.{Gives};
 ghost use Rattle.cfg_model.specs.declared.fault.CfgFault.TheVariants.{Memory};
 ghost use Rattle.cfg_model.specs.Elements.{right_of, right_word};
-ghost use Rattle.cfg_model.specs.Reading.{read_clerk, read_rights};
+ghost use Rattle.cfg_model.specs.Clerks.{read_clerk, read_rights};
 
-use crate::CfgFault;
 use crate::element::{Element, distinct};
-use crate::walk::{Entry, RESERVED_NAMES, entry_keys};
+use crate::group::FromEntry;
+use crate::walk::{Entry, entry_keys};
+use crate::{CfgFault, Config};
 use reg_base::{List, Name};
 use std::alloc::Global;
 use toml::Value;
@@ -53,6 +54,8 @@ impl Element for Right {
 
     ghost label_of = { right_word };
 
+    ghost sole = { λ r. false };
+
     #[tactic(auto, unfolding(crate::specs::Elements::right_of))]
     fn parse(text: &str) -> Option<Right> {
         match text {
@@ -69,32 +72,40 @@ impl Element for Right {
     fn label(&self) -> &str {
         self.word()
     }
+
+    fn is_sole(&self) -> bool {
+        false
+    }
 }
 
-/// A clerk as the entry says.
-#[tactic(auto, unfolding(crate::specs::Reading::read_clerk))]
-pub(crate) fn read_clerk(alloc: Global, name: &str, value: &Value) -> Result<Clerk, CfgFault>
-    ensures { Gives Memory result (read_clerk name.now (view value.now)) }
-{
-    let keys = entry_keys(alloc, "clerk", &RESERVED_NAMES, &["rights"], name, value)?;
-    let entry = Entry {
-        group: "clerk",
-        name,
-        keys,
-    };
-    let rights = read_rights(alloc, &entry)?;
-    Ok(Clerk {
-        name: Name::parse(name).unwrap(),
-        rights,
-    })
+impl FromEntry for Clerk {
+    ghost reads = { λ config. read_clerk };
+
+    ghost name_of = { λ clerk. clerk.name };
+
+    #[tactic(auto, unfolding(crate::specs::Clerks::read_clerk))]
+    fn read(alloc: Global, _config: &Config, name: &str, value: &Value) -> Result<Clerk, CfgFault> {
+        let keys = entry_keys(alloc, "clerk", &[], &["rights"], name, value)?;
+        let entry = Entry {
+            group: "clerk",
+            name,
+            keys,
+        };
+        let rights = read_rights(alloc, &entry)?;
+        Ok(Clerk {
+            name: Name::parse(name).unwrap(),
+            rights,
+        })
+    }
 }
 
-#[tactic(auto, unfolding(crate::specs::Reading::read_rights))]
+#[tactic(auto, unfolding(crate::specs::Clerks::read_rights))]
 fn read_rights(alloc: Global, entry: &Entry) -> Result<List<Right>, CfgFault>
     requires { entry.now.group.now ≡ codes "clerk" }
     ensures { let keys = table_view entry.now.keys.now in
         Gives Memory result (read_rights entry.now.name.now keys) }
 {
     let rights = entry.elements(alloc, "rights")?;
-    distinct(alloc, rights)
+    distinct(alloc, rights.as_slice())?;
+    Ok(rights)
 }

@@ -1,18 +1,15 @@
 //! The configuration, and how it is read from the bytes of a file.
-ghost use Rattle.std.specs.Prelude.{◌≡◌, IfOk};
+ghost use Rattle.std.specs.Prelude.{◌≡◌, [], IfOk};
 ghost use Rattle.toml.specs.View.{table_view};
 ghost use Rattle.reg_base.specs.Results.{Gives, GivesAs, some_or};
 ghost use Rattle.cfg_model.specs.declared.fault.CfgFault.TheVariants.{Memory, NotToml};
 ghost use Rattle.cfg_model.specs.Limits.{IsWithinLimits};
 ghost use Rattle.cfg_model.specs.Places.{clerk_place, register_place};
 ghost use Rattle.cfg_model.specs.Reading.{read_config, config_of, document};
-ghost use Rattle.cfg_model.specs.Reading.{read_registers, read_register as register_of};
-ghost use Rattle.cfg_model.specs.Reading.{read_clerks, read_clerk as clerk_of};
-ghost use Rattle.cfg_model.specs.Walk.{each_entry};
+ghost use Rattle.cfg_model.specs.Resolving.{HasNamesInOrder, IsInOrder, NamesResolve};
 
-use crate::clerk::read_clerk;
-use crate::register::read_register;
-use crate::walk::{group_entries, known_keys};
+use crate::group::read_group;
+use crate::walk::known_keys;
 use crate::{CfgFault, Chart, Clerk, Kind, Register, Sequence};
 use reg_base::{List, Name};
 use std::alloc::Global;
@@ -22,8 +19,20 @@ use toml::Table;
 /// How many registers a configuration has at the most.
 pub const REGISTER_LIMIT: usize = 32;
 
+/// How many ledgers a configuration has at the most.
+pub const LEDGER_LIMIT: usize = 8;
+
+/// How many document types a configuration has at the most.
+pub const DOCUMENT_LIMIT: usize = 64;
+
+/// How many sequences a configuration has at the most.
+pub const SEQUENCE_LIMIT: usize = 16;
+
 /// How many clerks a configuration has at the most.
 pub const CLERK_LIMIT: usize = 64;
+
+/// The keys of the top level, in the order in which their groups are read.
+const GROUP_KEYS: [&str; 5] = ["register", "ledger", "document", "sequence", "clerk"];
 
 /// What a desk is set up for, each list in byte order of names.
 #[derive(Drop)]
@@ -36,11 +45,29 @@ pub struct Config {
 }
 
 impl Config {
+    fn empty(alloc: Global) -> Config
+        ensures registers { result.registers ≡ [] }
+        ensures ledgers { result.ledgers ≡ [] }
+        ensures kinds { result.kinds ≡ [] }
+        ensures sequences { result.sequences ≡ [] }
+        ensures clerks { result.clerks ≡ [] }
+    {
+        Config {
+            registers: List::new(alloc),
+            ledgers: List::new(alloc),
+            kinds: List::new(alloc),
+            sequences: List::new(alloc),
+            clerks: List::new(alloc),
+        }
+    }
+
     /// The configuration that a file holds, or the first fault on the walk through its bytes.
     #[tactic(auto, unfolding(crate::specs::Reading::read_config))]
     pub fn read(alloc: Global, bytes: &[u8]) -> Result<Config, CfgFault>
         ensures read { Gives Memory result (read_config bytes.now) }
         ensures limits { IfOk result IsWithinLimits }
+        ensures in_order { IfOk result IsInOrder }
+        ensures resolves { IfOk result NamesResolve }
     {
         let top = read_document(alloc, bytes)?;
         config_of(alloc, &top)
@@ -80,58 +107,15 @@ fn read_document(alloc: Global, bytes: &[u8]) -> Result<Table, CfgFault>
 
 #[tactic(auto, unfolding(crate::specs::Reading::config_of))]
 fn config_of(alloc: Global, top: &Table) -> Result<Config, CfgFault>
-    ensures { Gives Memory result (config_of (table_view top.now)) }
+    ensures read { Gives Memory result (config_of (table_view top.now)) }
+    ensures in_order { IfOk result HasNamesInOrder }
 {
-    known_keys(alloc, &["register", "clerk"], top)?;
-    let registers = read_registers(alloc, top)?;
-    let clerks = read_clerks(alloc, top)?;
-    Ok(Config {
-        registers,
-        ledgers: List::new(alloc),
-        kinds: List::new(alloc),
-        sequences: List::new(alloc),
-        clerks,
-    })
-}
-
-#[tactic(auto, unfolding(crate::specs::Reading::read_registers, crate::specs::Walk::each_entry))]
-fn read_registers(alloc: Global, top: &Table) -> Result<List<Register>, CfgFault>
-    ensures { Gives Memory result (read_registers (table_view top.now)) }
-{
-    match group_entries(alloc, top, "register", REGISTER_LIMIT)? {
-        Some(entries) => each_register(alloc, entries),
-        None => Ok(List::new(alloc)),
-    }
-}
-
-#[tactic(auto, using(crate::proofs::Walks::walks))]
-fn each_register(alloc: Global, entries: &Table) -> Result<List<Register>, CfgFault>
-    ensures { Gives Memory result (each_entry register_of (table_view entries.now)) }
-{
-    let mut registers = Vec::new(alloc);
-    'entries: for (name, value) in entries.iter() {
-        registers.push(read_register(alloc, name.as_str(), value)?)?;
-    }
-    Ok(List::from_vec(registers))
-}
-
-#[tactic(auto, unfolding(crate::specs::Reading::read_clerks, crate::specs::Walk::each_entry))]
-fn read_clerks(alloc: Global, top: &Table) -> Result<List<Clerk>, CfgFault>
-    ensures { Gives Memory result (read_clerks (table_view top.now)) }
-{
-    match group_entries(alloc, top, "clerk", CLERK_LIMIT)? {
-        Some(entries) => each_clerk(alloc, entries),
-        None => Ok(List::new(alloc)),
-    }
-}
-
-#[tactic(auto, using(crate::proofs::Walks::walks))]
-fn each_clerk(alloc: Global, entries: &Table) -> Result<List<Clerk>, CfgFault>
-    ensures { Gives Memory result (each_entry clerk_of (table_view entries.now)) }
-{
-    let mut clerks = Vec::new(alloc);
-    'entries: for (name, value) in entries.iter() {
-        clerks.push(read_clerk(alloc, name.as_str(), value)?)?;
-    }
-    Ok(List::from_vec(clerks))
+    known_keys(alloc, &GROUP_KEYS, top)?;
+    let mut config = Config::empty(alloc);
+    config.registers = read_group(alloc, top, "register", REGISTER_LIMIT, &config)?;
+    config.ledgers = read_group(alloc, top, "ledger", LEDGER_LIMIT, &config)?;
+    config.kinds = read_group(alloc, top, "document", DOCUMENT_LIMIT, &config)?;
+    config.sequences = read_group(alloc, top, "sequence", SEQUENCE_LIMIT, &config)?;
+    config.clerks = read_group(alloc, top, "clerk", CLERK_LIMIT, &config)?;
+    Ok(config)
 }

@@ -1,15 +1,19 @@
 //! Lists of texts, each of which spells an element.
-ghost use Rattle.std.specs.Prelude.{◌≡◌, ℕ, List, [], map, Option, option_map, IfOk};
-ghost use Rattle.toml.specs.View.{array_view, table_view};
-ghost use Rattle.reg_base.specs.Results.{Gives, some_or};
+ghost use Rattle.std.specs.Prelude.{◌≡◌, ℕ, Bool, List, [], map, Option, option_map, IfOk};
+ghost use Rattle.std.specs.List.{list_any};
+ghost use Rattle.toml.specs.View.{array_view, table_view, view};
+ghost use Rattle.reg_base.specs.Results.{Gives, GivesAs, some_or};
 ghost use Rattle.cfg_model.specs.declared.fault.CfgFault.TheVariants.{Memory, Field};
-ghost use Rattle.cfg_model.specs.Words.{is_one_of, first_repeated, key_path};
-ghost use Rattle.cfg_model.specs.Walk.{of_shape, spelled, text_list, distinct};
+ghost use Rattle.cfg_model.specs.Elements.{name_of};
+ghost use Rattle.cfg_model.specs.Words.{is_one_of, key_path};
+ghost use Rattle.cfg_model.specs.Walk.{of_shape, each_item, text_of, text_list, distinct};
+ghost use Rattle.cfg_model.specs.Walk.{is_second, first_second};
 
 use crate::CfgFault;
 use crate::walk::{Entry, twice};
-use reg_base::List;
+use reg_base::{List, Name};
 use std::alloc::{AllocError, Global};
+use toml::Value;
 use toml::value::Array;
 
 /// What a text in a list spells.
@@ -18,12 +22,40 @@ pub(crate) trait Element: Drop {
 
     ghost label_of: { Self → List ℕ };
 
+    ghost sole: { Self → Bool };
+
     fn parse(text: &str) -> Option<Self>
         ensures { result ≡ reads text.now };
 
     /// What no two elements of a list share.
     fn label(&self) -> &str
         ensures { result.now ≡ label_of self.now };
+
+    /// Whether it is of the sort that stands in a list once at the most.
+    fn is_sole(&self) -> bool
+        ensures { result ≡ sole self.now };
+}
+
+impl Element for Name {
+    ghost use Rattle.std.specs.Prelude.{false};
+
+    ghost reads = { name_of };
+
+    ghost label_of = { λ name. name };
+
+    ghost sole = { λ name. false };
+
+    fn parse(text: &str) -> Option<Name> {
+        Name::parse(text)
+    }
+
+    fn label(&self) -> &str {
+        self.as_str()
+    }
+
+    fn is_sole(&self) -> bool {
+        false
+    }
 }
 
 impl Entry<'_> {
@@ -36,28 +68,28 @@ impl Entry<'_> {
         let Some(value) = self.get(key) else {
             return Err(self.wrong(alloc, key));
         };
-        let Some(array) = value.as_array() else {
-            return Err(self.wrong(alloc, key));
-        };
-        let Some(found) = spelled(alloc, array)? else {
+        let Some(found) = elements_of(alloc, value)? else {
             return Err(self.wrong(alloc, key));
         };
         Ok(found)
     }
 }
 
-/// The same list, where no two of its elements share a label.
-pub(crate) fn distinct<E: Element>(alloc: Global, found: List<E>) -> Result<List<E>, CfgFault>
-    ensures { Gives Memory result (distinct E.label_of found) }
+/// What a list of texts spells.
+pub(crate) fn elements_of<E: Element>(
+    alloc: Global,
+    value: &Value,
+) -> Result<Option<List<E>>, AllocError>
+    ensures { IfOk result (λ found. found ≡ text_list E.reads (view value.now)) }
 {
-    if let Some(label) = first_repeated(found.as_slice()) {
-        return Err(twice(alloc, label));
+    match value.as_array() {
+        Some(array) => spelled(alloc, array),
+        None => Ok(None),
     }
-    Ok(found)
 }
 
 fn spelled<E: Element>(alloc: Global, array: &Array) -> Result<Option<List<E>>, AllocError>
-    ensures { IfOk result (λ found. found ≡ spelled E.reads (array_view array.now)) }
+    ensures { IfOk result (λ found. found ≡ each_item (text_of E.reads) (array_view array.now)) }
 {
     let mut found = Vec::new(alloc);
     'items: for item in array {
@@ -72,16 +104,32 @@ fn spelled<E: Element>(alloc: Global, array: &Array) -> Result<Option<List<E>>, 
     Ok(Some(List::from_vec(found)))
 }
 
-/// The label of the first element whose label stands before it.
-fn first_repeated<E: Element>(found: &[E]) -> Option<&str>
-    ensures { option_map (λ l. l.now) result ≡ first_repeated [] (map E.label_of found.now) }
+/// Refuses a list in which an element stands twice.
+pub(crate) fn distinct<E: Element>(alloc: Global, found: &[E]) -> Result<(), CfgFault>
+    ensures { GivesAs Memory (λ _. found.now) result (distinct E.label_of E.sole found.now) }
+{
+    match first_second(found) {
+        Some(element) => Err(twice(alloc, element.label())),
+        None => Ok(()),
+    }
+}
+
+/// The first element that may not stand behind those before it.
+fn first_second<E: Element>(found: &[E]) -> Option<&E>
+    ensures { option_map (λ e. e.now) result ≡ first_second E.label_of E.sole [] found.now }
 {
     'elements: for (index, element) in found.iter().enumerate() {
-        if has_label(&found[..index], element.label()) {
-            return Some(element.label());
+        if is_second(&found[..index], element) {
+            return Some(element);
         }
     }
     None
+}
+
+fn is_second<E: Element>(found: &[E], element: &E) -> bool
+    ensures { result ≡ is_second E.label_of E.sole found.now element.now }
+{
+    has_label(found, element.label()) || (element.is_sole() && has_sole(found))
 }
 
 fn has_label<E: Element>(found: &[E], label: &str) -> bool
@@ -89,6 +137,17 @@ fn has_label<E: Element>(found: &[E], label: &str) -> bool
 {
     'elements: for element in found {
         if element.label() == label {
+            return true;
+        }
+    }
+    false
+}
+
+fn has_sole<E: Element>(found: &[E]) -> bool
+    ensures { result ≡ list_any E.sole found.now }
+{
+    'elements: for element in found {
+        if element.is_sole() {
             return true;
         }
     }

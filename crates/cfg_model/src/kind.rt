@@ -1,5 +1,23 @@
 //! A document type: its fields and its posting rules.
+ghost use Rattle.std.specs.Prelude.{◌≡◌, codes, false};
+ghost use Rattle.toml.specs.View.{view, table_view};
+ghost use Rattle.reg_base.specs.Results.{Gives};
+ghost use Rattle.cfg_model.specs.declared.fault.CfgFault.TheVariants.{Memory};
+ghost use Rattle.cfg_model.specs.Elements.{field_of, field_scale_of};
+ghost use Rattle.cfg_model.specs.Kinds.{read_kind, read_fields};
+ghost use Rattle.cfg_model.specs.Sequences.{has_code_field};
+
+use crate::element::{Element, distinct};
+use crate::group::FromEntry;
+use crate::register::parse_scale;
+use crate::walk::{Entry, entry_keys};
+use crate::{CfgFault, Config};
 use reg_base::{List, Name, Scale, Text};
+use std::alloc::Global;
+use toml::Value;
+
+/// How many fields a head has at the most, and as many the lines.
+pub const FIELD_LIMIT: usize = 16;
 
 /// A document type.
 #[derive(Drop)]
@@ -17,4 +35,92 @@ pub struct Field {
     pub name: Name,
     /// The decimals of a number, or none for a code.
     pub scale: Option<Scale>,
+}
+
+impl Kind {
+    /// Whether the head has a code field of this name.
+    pub fn has_head_code(&self, field: &Name) -> bool
+        ensures { result ≡ has_code_field field.now self.now }
+    {
+        self.head
+            .as_slice()
+            .iter()
+            .any(|f| f.name == *field && f.scale.is_none())
+    }
+}
+
+impl Element for Field {
+    ghost reads = { field_of };
+
+    ghost label_of = { λ f. f.name };
+
+    ghost sole = { λ f. false };
+
+    #[tactic(auto, unfolding(crate::specs::Elements::field_of))]
+    fn parse(text: &str) -> Option<Field> {
+        let (name, sort) = text.split_once(':')?;
+        let name = Name::parse(name)?;
+        let scale = parse_field_scale(sort)?;
+        Some(Field { name, scale })
+    }
+
+    fn label(&self) -> &str {
+        self.name.as_str()
+    }
+
+    fn is_sole(&self) -> bool {
+        false
+    }
+}
+
+/// The scale of a field's numbers, or none for codes.
+#[tactic(auto, unfolding(crate::specs::Elements::field_scale_of))]
+fn parse_field_scale(word: &str) -> Option<Option<Scale>>
+    ensures { result ≡ field_scale_of word.now }
+{
+    if word == "code" {
+        return Some(None);
+    }
+    let scale = parse_scale(word)?;
+    Some(Some(scale))
+}
+
+impl FromEntry for Kind {
+    ghost reads = { λ config. read_kind };
+
+    ghost name_of = { λ kind. kind.name };
+
+    #[tactic(auto, unfolding(crate::specs::Kinds::read_kind))]
+    fn read(alloc: Global, _config: &Config, name: &str, value: &Value) -> Result<Kind, CfgFault> {
+        let known = ["head", "lines", "rules"];
+        let keys = entry_keys(alloc, "document", &[], &known, name, value)?;
+        let entry = Entry {
+            group: "document",
+            name,
+            keys,
+        };
+        let head = read_fields(alloc, &entry, "head")?;
+        let lines = read_fields(alloc, &entry, "lines")?;
+        let Some(rules) = entry.text("rules") else {
+            return Err(entry.wrong(alloc, "rules"));
+        };
+        Ok(Kind {
+            name: Name::parse(name).unwrap(),
+            head,
+            lines,
+            rules: Text::from_str(alloc, rules)?,
+        })
+    }
+}
+
+#[tactic(auto, unfolding(crate::specs::Kinds::read_fields))]
+fn read_fields(alloc: Global, entry: &Entry, key: &str) -> Result<List<Field>, CfgFault>
+    requires { entry.now.group.now ≡ codes "document" }
+    ensures { let keys = table_view entry.now.keys.now in
+        Gives Memory result (read_fields entry.now.name.now key.now keys) }
+{
+    let fields = entry.elements(alloc, key)?;
+    entry.at_most(alloc, key, FIELD_LIMIT, fields.len())?;
+    distinct(alloc, fields.as_slice())?;
+    Ok(fields)
 }

@@ -1,5 +1,17 @@
 //! A ledger: its chart of accounts.
-use reg_base::{Code, List, Name, Scale, Text};
+ghost use Rattle.std.specs.Prelude.{◌≡◌, codes};
+ghost use Rattle.toml.specs.View.{view, table_view};
+ghost use Rattle.reg_base.specs.Results.{Gives};
+ghost use Rattle.cfg_model.specs.declared.fault.CfgFault.TheVariants.{Memory};
+ghost use Rattle.cfg_model.specs.Ledgers.{read_ledger, read_scale, scale_number};
+
+use crate::accounts::read_accounts;
+use crate::group::FromEntry;
+use crate::walk::{Entry, entry_keys};
+use crate::{Account, CfgFault, Config};
+use reg_base::{List, Name, Scale};
+use std::alloc::Global;
+use toml::Value;
 
 /// A ledger with its accounts, in byte order of codes.
 #[derive(Drop)]
@@ -12,25 +24,57 @@ pub struct Chart {
     pub accounts: List<Account>,
 }
 
-/// An account of a ledger.
-#[derive(Drop)]
-pub struct Account {
-    pub code: Code,
-    /// 1 to 32 printable ASCII bytes.
-    pub name: Text,
-    pub nature: Nature,
-    /// Whether entries may name it with no account on the other side.
-    pub off: bool,
-    /// The code of the account of the same ledger that sums it.
-    pub parent: Option<Code>,
-    /// The names of the values that its entries bring.
-    pub extras: List<Name>,
+impl FromEntry for Chart {
+    ghost reads = { λ config. read_ledger config.registers };
+
+    ghost name_of = { λ chart. chart.name };
+
+    #[tactic(auto, unfolding(crate::specs::Ledgers::read_ledger))]
+    fn read(alloc: Global, config: &Config, name: &str, value: &Value) -> Result<Chart, CfgFault> {
+        let known = ["scale", "split", "accounts"];
+        let registers = config.registers.as_slice();
+        let keys = entry_keys(alloc, "ledger", registers, &known, name, value)?;
+        let entry = Entry {
+            group: "ledger",
+            name,
+            keys,
+        };
+        let scale = read_scale(alloc, &entry)?;
+        let split = entry.split(alloc)?;
+        let accounts = read_accounts(alloc, &entry)?;
+        Ok(Chart {
+            name: Name::parse(name).unwrap(),
+            scale,
+            split,
+            accounts,
+        })
+    }
 }
 
-/// The side on which an account shows its net.
-#[derive(Clone, Copy)]
-pub enum Nature {
-    Active,
-    Passive,
-    Both,
+#[tactic(auto, unfolding(crate::specs::Ledgers::read_scale))]
+fn read_scale(alloc: Global, entry: &Entry) -> Result<Scale, CfgFault>
+    requires { entry.now.group.now ≡ codes "ledger" }
+    ensures { let keys = table_view entry.now.keys.now in
+        Gives Memory result (read_scale entry.now.name.now keys) }
+{
+    let Some(value) = entry.get("scale") else {
+        return Err(entry.wrong(alloc, "scale"));
+    };
+    let Some(number) = value.as_integer() else {
+        return Err(entry.wrong(alloc, "scale"));
+    };
+    let Some(scale) = scale_of(number) else {
+        return Err(entry.wrong(alloc, "scale"));
+    };
+    Ok(scale)
+}
+
+#[tactic(auto, unfolding(crate::specs::Ledgers::scale_number))]
+fn scale_of(number: i64) -> Option<Scale>
+    ensures { result ≡ scale_number number }
+{
+    match u8::try_from(number) {
+        Ok(decimals) => Scale::new(decimals),
+        Err(_) => None,
+    }
 }

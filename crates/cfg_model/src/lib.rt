@@ -10,22 +10,33 @@
 //! Leaves open: when memory is refused.
 #![tactic(auto)]
 
+mod account;
+mod accounts;
 mod clerk;
 mod config;
 mod element;
+mod entry;
 mod fault;
+mod group;
 mod kind;
 mod ledger;
 mod register;
 mod sequence;
 #[cfg(test)]
+mod test_files;
+#[cfg(test)]
 mod tests;
 mod walk;
 
+pub use account::{Account, Nature};
+pub use accounts::{ACCOUNT_LIMIT, EXTRA_LIMIT};
 pub use clerk::{Clerk, Right};
-pub use config::{CLERK_LIMIT, Config, REGISTER_LIMIT};
-pub use fault::{CfgFault, PostFault};
-pub use kind::{Field, Kind};
-pub use ledger::{Account, Chart, Nature};
+pub use config::{
+    CLERK_LIMIT, Config, DOCUMENT_LIMIT, LEDGER_LIMIT, REGISTER_LIMIT, SEQUENCE_LIMIT,
+};
+pub use entry::check_entry;
+pub use fault::{CfgFault, EntryFault, PostFault};
+pub use kind::{FIELD_LIMIT, Field, Kind};
+pub use ledger::Chart;
 pub use register::{DIMENSION_LIMIT, Dimension, RESOURCE_LIMIT, Register, Resource};
 pub use sequence::Sequence;

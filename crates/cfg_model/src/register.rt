@@ -1,15 +1,17 @@
 //! A register: the dimensions by which its records are told apart, and the numbers they bring.
-ghost use Rattle.std.specs.Prelude.{◌≡◌, codes};
+ghost use Rattle.std.specs.Prelude.{◌≡◌, codes, false};
 ghost use Rattle.toml.specs.View.{view, table_view};
 ghost use Rattle.reg_base.specs.Results.{Gives};
 ghost use Rattle.cfg_model.specs.declared.fault.CfgFault.TheVariants.{Memory};
-ghost use Rattle.cfg_model.specs.Elements.{dimension_of, resource_of, scale_of};
-ghost use Rattle.cfg_model.specs.Reading.{read_register, read_balance};
-ghost use Rattle.cfg_model.specs.Reading.{read_dimensions, read_resources};
+ghost use Rattle.cfg_model.specs.Elements.{dimension_of, lot_of, resource_of, scale_of};
+ghost use Rattle.cfg_model.specs.Registers.{read_register, read_balance, balance_of};
+ghost use Rattle.cfg_model.specs.Registers.{read_dimensions, read_resources};
+ghost use Rattle.cfg_model.specs.Sequences.{has_codes};
 
-use crate::CfgFault;
 use crate::element::{Element, distinct};
-use crate::walk::{Entry, RESERVED_NAMES, entry_keys};
+use crate::group::FromEntry;
+use crate::walk::{Entry, entry_keys};
+use crate::{CfgFault, Config};
 use reg_base::{List, Name, Scale};
 use std::alloc::Global;
 use toml::Value;
@@ -49,24 +51,39 @@ pub struct Resource {
     pub scale: Scale,
 }
 
+impl Register {
+    /// Whether it has a dimension of codes of this name.
+    pub fn has_code_dimension(&self, dimension: &Name) -> bool
+        ensures { result ≡ has_codes dimension.now self.now }
+    {
+        self.dimensions
+            .as_slice()
+            .iter()
+            .any(|d| d.name == *dimension && !d.lot)
+    }
+}
+
 impl Element for Dimension {
     ghost reads = { dimension_of };
 
     ghost label_of = { λ d. d.name };
 
+    ghost sole = { λ d. d.lot };
+
     #[tactic(auto, unfolding(crate::specs::Elements::dimension_of))]
     fn parse(text: &str) -> Option<Dimension> {
         let (name, sort) = text.split_once(':')?;
         let name = Name::parse(name)?;
-        if sort == "code" {
-            Some(Dimension { name, lot: false })
-        } else {
-            None
-        }
+        let lot = parse_lot(sort)?;
+        Some(Dimension { name, lot })
     }
 
     fn label(&self) -> &str {
         self.name.as_str()
+    }
+
+    fn is_sole(&self) -> bool {
+        self.lot
     }
 }
 
@@ -74,6 +91,8 @@ impl Element for Resource {
     ghost reads = { resource_of };
 
     ghost label_of = { λ r. r.name };
+
+    ghost sole = { λ r. false };
 
     #[tactic(auto, unfolding(crate::specs::Elements::resource_of))]
     fn parse(text: &str) -> Option<Resource> {
@@ -86,11 +105,26 @@ impl Element for Resource {
     fn label(&self) -> &str {
         self.name.as_str()
     }
+
+    fn is_sole(&self) -> bool {
+        false
+    }
+}
+
+#[tactic(auto, unfolding(crate::specs::Elements::lot_of))]
+fn parse_lot(word: &str) -> Option<bool>
+    ensures { result ≡ lot_of word.now }
+{
+    match word {
+        "code" => Some(false),
+        "lot" => Some(true),
+        _ => None,
+    }
 }
 
 /// The scale that one digit spells.
 #[tactic(auto, unfolding(crate::specs::Elements::scale_of))]
-fn parse_scale(text: &str) -> Option<Scale>
+pub(crate) fn parse_scale(text: &str) -> Option<Scale>
     ensures { result ≡ scale_of text.now }
 {
     match text.as_bytes() {
@@ -99,47 +133,67 @@ fn parse_scale(text: &str) -> Option<Scale>
     }
 }
 
-/// A register as its entry says.
-#[tactic(auto, unfolding(crate::specs::Reading::read_register))]
-pub(crate) fn read_register(alloc: Global, name: &str, value: &Value) -> Result<Register, CfgFault>
-    ensures { Gives Memory result (read_register name.now (view value.now)) }
-{
-    let known = ["kind", "dimensions", "resources"];
-    let keys = entry_keys(alloc, "register", &RESERVED_NAMES, &known, name, value)?;
-    let entry = Entry {
-        group: "register",
-        name,
-        keys,
-    };
-    let balance = read_balance(alloc, &entry)?;
-    let dimensions = read_dimensions(alloc, &entry)?;
-    let resources = read_resources(alloc, &entry)?;
-    Ok(Register {
-        name: Name::parse(name).unwrap(),
-        balance,
-        dimensions,
-        resources,
-        split: false,
-    })
+impl FromEntry for Register {
+    ghost reads = { λ config. read_register };
+
+    ghost name_of = { λ register. register.name };
+
+    #[tactic(auto, unfolding(crate::specs::Registers::read_register))]
+    fn read(
+        alloc: Global,
+        _config: &Config,
+        name: &str,
+        value: &Value,
+    ) -> Result<Register, CfgFault> {
+        let known = ["kind", "dimensions", "resources", "split"];
+        let keys = entry_keys(alloc, "register", &[], &known, name, value)?;
+        let entry = Entry {
+            group: "register",
+            name,
+            keys,
+        };
+        let balance = read_balance(alloc, &entry)?;
+        let dimensions = read_dimensions(alloc, &entry)?;
+        let resources = read_resources(alloc, &entry)?;
+        let split = entry.split(alloc)?;
+        Ok(Register {
+            name: Name::parse(name).unwrap(),
+            balance,
+            dimensions,
+            resources,
+            split,
+        })
+    }
 }
 
-/// Whether the register has balances: `balance` is the one kind that is built.
-#[tactic(auto, unfolding(crate::specs::Reading::read_balance))]
+/// Whether the register has balances.
+#[tactic(auto, unfolding(crate::specs::Registers::read_balance))]
 fn read_balance(alloc: Global, entry: &Entry) -> Result<bool, CfgFault>
     requires { entry.now.group.now ≡ codes "register" }
     ensures { let keys = table_view entry.now.keys.now in
         Gives Memory result (read_balance entry.now.name.now keys) }
 {
-    let Some(value) = entry.get("kind") else {
+    let Some(word) = entry.text("kind") else {
         return Err(entry.wrong(alloc, "kind"));
     };
-    match value.as_str() {
-        Some("balance") => Ok(true),
-        _ => Err(entry.wrong(alloc, "kind")),
+    let Some(balance) = parse_balance(word) else {
+        return Err(entry.wrong(alloc, "kind"));
+    };
+    Ok(balance)
+}
+
+#[tactic(auto, unfolding(crate::specs::Registers::balance_of))]
+fn parse_balance(word: &str) -> Option<bool>
+    ensures { result ≡ balance_of word.now }
+{
+    match word {
+        "balance" => Some(true),
+        "turnover" => Some(false),
+        _ => None,
     }
 }
 
-#[tactic(auto, unfolding(crate::specs::Reading::read_dimensions))]
+#[tactic(auto, unfolding(crate::specs::Registers::read_dimensions))]
 fn read_dimensions(alloc: Global, entry: &Entry) -> Result<List<Dimension>, CfgFault>
     requires { entry.now.group.now ≡ codes "register" }
     ensures { let keys = table_view entry.now.keys.now in
@@ -147,10 +201,11 @@ fn read_dimensions(alloc: Global, entry: &Entry) -> Result<List<Dimension>, CfgF
 {
     let dimensions = entry.elements(alloc, "dimensions")?;
     entry.at_most(alloc, "dimensions", DIMENSION_LIMIT, dimensions.len())?;
-    distinct(alloc, dimensions)
+    distinct(alloc, dimensions.as_slice())?;
+    Ok(dimensions)
 }
 
-#[tactic(auto, unfolding(crate::specs::Reading::read_resources))]
+#[tactic(auto, unfolding(crate::specs::Registers::read_resources))]
 fn read_resources(alloc: Global, entry: &Entry) -> Result<List<Resource>, CfgFault>
     requires { entry.now.group.now ≡ codes "register" }
     ensures { let keys = table_view entry.now.keys.now in
@@ -161,5 +216,6 @@ fn read_resources(alloc: Global, entry: &Entry) -> Result<List<Resource>, CfgFau
         return Err(entry.wrong(alloc, "resources"));
     }
     entry.at_most(alloc, "resources", RESOURCE_LIMIT, resources.len())?;
-    distinct(alloc, resources)
+    distinct(alloc, resources.as_slice())?;
+    Ok(resources)
 }

@@ -1,120 +1,10 @@
-//! Files of a few lines, each with the answer that the walk through its text gives.
+//! What the walk through small files answers, and what the program does with what it read.
+use crate::test_files::{ACCOUNTS, DOCUMENTS, FILES, REGISTERS, SEQUENCES, SHOP};
 use crate::{CfgFault, Config};
 use reg_base::{Memory, Name};
 use std::alloc::{AllocError, Global};
 use std::process::Abort;
 use std::test::Fail;
-
-const NINE_DIMENSIONS: &str =
-    "['a:code', 'b:code', 'c:code', 'd:code', 'e:code', 'f:code', 'g:code', 'h:code', 'a:code']";
-
-const NINE_RESOURCES: &str = "['a:1', 'b:1', 'c:1', 'd:1', 'e:1', 'f:1', 'g:1', 'h:1', 'a:1']";
-
-/// Files, each with the text of its first fault.
-const FILES: [(&str, &str); 28] = [
-    ("", "accepted"),
-    ("x = 1", "4 Unknown x"),
-    ("y = 1\nx = 1", "4 Unknown x"),
-    ("x = ", "1 NotToml"),
-    ("[ledger.main]", "4 Unknown ledger"),
-    ("register = 1", "2 Field register"),
-    ("clerk = []", "2 Field clerk"),
-    ("[register]", "accepted"),
-    ("[register]\ns = 1", "2 Field register.s"),
-    ("[register.S]", "2 Field register.S"),
-    ("[clerk.abcdefghijklmnopqrstuvwx]\nrights = []", "accepted"),
-    (
-        "[clerk.abcdefghijklmnopqrstuvwxy]",
-        "2 Field clerk.abcdefghijklmnopqrstuvwxy",
-    ),
-    ("[register.documents]", "3 Twice documents"),
-    ("[clerk.batch]", "3 Twice batch"),
-    ("[clerk.doc]\nx = 1", "3 Twice doc"),
-    ("[clerk.a]\nz = 1\nname = 1\nrights = []", "4 Unknown name"),
-    ("[clerk.a]", "2 Field clerk.a.rights"),
-    ("[clerk.a]\nrights = 'read'", "2 Field clerk.a.rights"),
-    ("[clerk.a]\nrights = ['read', 1]", "2 Field clerk.a.rights"),
-    ("[clerk.a]\nrights = ['Read']", "2 Field clerk.a.rights"),
-    (
-        "[clerk.a]\nrights = ['read', 'lock', 'read']",
-        "3 Twice read",
-    ),
-    (
-        "[clerk.a]\nrights = ['read', 'read', 'walk']",
-        "2 Field clerk.a.rights",
-    ),
-    (
-        "[clerk.b]\n[clerk.a]\nrights = []",
-        "2 Field clerk.b.rights",
-    ),
-    ("[clerk.a]\n[register.s]", "2 Field register.s.kind"),
-    ("[register.s]\n[clerk.a]", "2 Field register.s.kind"),
-    ("[register.b]\n[register.a]", "2 Field register.a.kind"),
-    ("[register.s]\nsplit = true", "4 Unknown split"),
-    ("[register.s]\n[x]", "4 Unknown x"),
-];
-
-/// The kind, the dimensions and the resources of the register `s`, with its file's first fault.
-const REGISTERS: [(&str, &str, &str, &str); 18] = [
-    ("'balance'", "['a:code']", "['n:3']", "accepted"),
-    ("'balance'", "[]", "['n:0', 'm:6']", "accepted"),
-    ("1", "1", "1", "2 Field register.s.kind"),
-    ("'turnover'", "1", "1", "2 Field register.s.kind"),
-    ("'balance'", "['a']", "1", "2 Field register.s.dimensions"),
-    (
-        "'balance'",
-        "['a:lot']",
-        "1",
-        "2 Field register.s.dimensions",
-    ),
-    (
-        "'balance'",
-        "['A:code']",
-        "1",
-        "2 Field register.s.dimensions",
-    ),
-    (
-        "'balance'",
-        "['a:code:code']",
-        "1",
-        "2 Field register.s.dimensions",
-    ),
-    (
-        "'balance'",
-        "['a:code', 1]",
-        "1",
-        "2 Field register.s.dimensions",
-    ),
-    (
-        "'balance'",
-        "['a:code', 'b:code', 'a:code']",
-        "1",
-        "3 Twice a",
-    ),
-    (
-        "'balance'",
-        NINE_DIMENSIONS,
-        "1",
-        "5 Count register.s.dimensions 9",
-    ),
-    ("'balance'", "[]", "[]", "2 Field register.s.resources"),
-    ("'balance'", "[]", "['n:7']", "2 Field register.s.resources"),
-    (
-        "'balance'",
-        "[]",
-        "['n:03']",
-        "2 Field register.s.resources",
-    ),
-    ("'balance'", "[]", "['n:']", "2 Field register.s.resources"),
-    ("'balance'", "[]", "['n']", "2 Field register.s.resources"),
-    ("'balance'", "[]", "['n:1', 'm:2', 'n:3']", "3 Twice n"),
-    (
-        "'balance'",
-        "[]",
-        NINE_RESOURCES,
-        "5 Count register.s.resources 9",
-    ),
-];
 
 /// Asks that the file has this fault, or is accepted.
 fn expect(rt: &impl Abort, alloc: Global, file: &str, fault: &str) -> Result<(), Memory> {
@@ -126,7 +16,7 @@ fn expect(rt: &impl Abort, alloc: Global, file: &str, fault: &str) -> Result<(),
     Ok(())
 }
 
-/// A file of so many entries of a group, each a clerk.
+/// A file of so many entries of a group, each with the key of a clerk.
 fn entries(alloc: Global, group: &str, count: u8) -> Result<String, AllocError> {
     let mut file = String::new(alloc);
     for i in 0..count {
@@ -156,12 +46,50 @@ fn a_register_is_answered_with_its_first_fault(rt: HostRuntime) -> Result<(), Fa
 }
 
 #[test]
+fn accounts_are_answered_with_their_first_fault(rt: HostRuntime) -> Result<(), Fail> {
+    for (accounts, fault) in &ACCOUNTS {
+        let file = format!(in rt.alloc(); "[ledger.main]\nscale = 2\naccounts = {accounts}")?;
+        expect(&rt, rt.alloc(), file.as_str(), fault)?;
+    }
+    Ok(())
+}
+
+#[test]
+fn a_document_type_is_answered_with_its_first_fault(rt: HostRuntime) -> Result<(), Fail> {
+    for (head, lines, rules, fault) in &DOCUMENTS {
+        let file = format!(in rt.alloc();
+            "[document.d]\nhead = {head}\nlines = {lines}\nrules = {rules}"
+        )?;
+        expect(&rt, rt.alloc(), file.as_str(), fault)?;
+    }
+    Ok(())
+}
+
+#[test]
+fn a_sequence_is_answered_with_its_first_fault(rt: HostRuntime) -> Result<(), Fail> {
+    for (documents, registers, dimensions, fault) in &SEQUENCES {
+        let file = format!(in rt.alloc();
+            "{SHOP}[sequence.q]\ndocuments = {documents}\nregisters = {registers}\n\
+            dimensions = {dimensions}"
+        )?;
+        expect(&rt, rt.alloc(), file.as_str(), fault)?;
+    }
+    Ok(())
+}
+
+#[test]
 fn one_entry_more_than_the_limit_is_a_count(rt: HostRuntime) -> Result<(), Fail> {
     for (group, count, fault) in [
         ("register", 32, "4 Unknown rights"),
         ("register", 33, "5 Count register 33"),
         ("clerk", 64, "accepted"),
         ("clerk", 65, "5 Count clerk 65"),
+        ("ledger", 8, "4 Unknown rights"),
+        ("ledger", 9, "5 Count ledger 9"),
+        ("document", 64, "4 Unknown rights"),
+        ("document", 65, "5 Count document 65"),
+        ("sequence", 16, "4 Unknown rights"),
+        ("sequence", 17, "5 Count sequence 17"),
     ] {
         let file = entries(rt.alloc(), group, count)?;
         expect(&rt, rt.alloc(), file.as_str(), fault)?;

@@ -1,21 +1,22 @@
 //! The steps of the walk through a file that all groups share.
-ghost use Rattle.std.specs.Prelude.{◌≡◌, true, IfOk, option_map};
-ghost use Rattle.toml.specs.Data.{get_member};
+ghost use Rattle.std.specs.Prelude.{◌≡◌, true, false, map, IfOk, option_map};
+ghost use Rattle.toml.specs.Data.{get_member, as_str, as_bool};
 ghost use Rattle.toml.specs.View.{view, table_view};
 ghost use Rattle.reg_base.specs.Codes.{is_name};
 ghost use Rattle.reg_base.specs.Results.{Gives, GivesAs, Says};
-ghost use Rattle.cfg_model.specs.declared.fault.CfgFault.TheVariants.{Memory, Field, Twice};
+ghost use Rattle.cfg_model.specs.declared.fault.CfgFault.TheVariants.{Memory, Field, Twice, Unknown};
 ghost use Rattle.cfg_model.specs.Words.{texts, is_one_of, first_unknown, entry_path, key_path};
 ghost use Rattle.cfg_model.specs.Walk.{members_or_none, group_entries, entry_keys, known_keys};
-ghost use Rattle.cfg_model.specs.Walk.{at_most};
+ghost use Rattle.cfg_model.specs.Walk.{at_most, is_taken, of_shape, shape_or};
+ghost use Rattle.cfg_model.specs.Registers.{read_split};
 
-use crate::CfgFault;
+use crate::{CfgFault, Register};
 use reg_base::{Name, Text};
 use std::alloc::{AllocError, Global};
 use toml::{Table, Value};
 
 /// Names of spaces and of one clerk, which no entry may take.
-pub(crate) const RESERVED_NAMES: [&str; 5] = ["doc", "key", "closed", "batch", "documents"];
+const RESERVED_NAMES: [&str; 5] = ["doc", "key", "closed", "batch", "documents"];
 
 /// An entry of a group: its name, and the table of its keys.
 #[derive(Clone, Copy)]
@@ -32,6 +33,26 @@ impl Entry<'_> {
             option_map (λ v. view v.now) result ≡ get_member key.now keys }
     {
         find(self.keys, key)
+    }
+
+    /// The text that a key of the entry holds.
+    pub(crate) fn text(&self, key: &str) -> Option<&str>
+        ensures { let keys = table_view self.now.keys.now in
+            option_map (λ t. t.now) result ≡ of_shape as_str key.now keys }
+    {
+        text_at(self.keys, key)
+    }
+
+    /// Whether the locks of the entry begin as splitting ones.
+    #[tactic(auto, unfolding(crate::specs::Registers::read_split))]
+    pub(crate) fn split(&self, alloc: Global) -> Result<bool, CfgFault>
+        ensures { let keys = table_view self.now.keys.now in
+            Gives Memory result (read_split self.now.group.now self.now.name.now keys) }
+    {
+        match flag_at(self.keys, "split") {
+            Some(split) => Ok(split),
+            None => Err(self.wrong(alloc, "split")),
+        }
     }
 
     /// The fault of a key that is missing or of a wrong shape.
@@ -105,14 +126,13 @@ pub(crate) fn group_entries<'a>(
 pub(crate) fn entry_keys<'a>(
     alloc: Global,
     group: &str,
-    taken: &[&str],
+    registers: &[Register],
     known: &[&str],
     name: &str,
     value: &'a Value,
 ) -> Result<&'a Table, CfgFault>
-    ensures keys { let taken_names = texts taken.now in
-        let known_names = texts known.now in
-        let keys = entry_keys group.now taken_names known_names name.now (view value.now) in
+    ensures keys { let known_names = texts known.now in
+        let keys = entry_keys group.now registers.now known_names name.now (view value.now) in
         GivesAs Memory (λ t. table_view t.now) result keys }
     ensures named { IfOk result (λ _. is_name name.now ≡ true) }
 {
@@ -122,11 +142,30 @@ pub(crate) fn entry_keys<'a>(
     let Some(keys) = value.as_table() else {
         return Err(wrong_entry(alloc, group, name));
     };
-    if is_one_of(taken, name) {
+    if is_taken(registers, name) {
         return Err(twice(alloc, name));
     }
     known_keys(alloc, known, keys)?;
     Ok(keys)
+}
+
+/// Whether the name is a reserved one, or that of a register.
+fn is_taken(registers: &[Register], name: &str) -> bool
+    ensures { result ≡ is_taken registers.now name.now }
+{
+    is_one_of(&RESERVED_NAMES, name) || has_register(registers, name)
+}
+
+/// Whether there is a register of this name.
+pub(crate) fn has_register(registers: &[Register], name: &str) -> bool
+    ensures { result ≡ is_one_of (map (λ r. r.name) registers.now) name.now }
+{
+    'registers: for register in registers {
+        if register.name.as_str() == name {
+            return true;
+        }
+    }
+    false
 }
 
 /// Refuses the least key that is not known.
@@ -137,8 +176,7 @@ pub(crate) fn known_keys(alloc: Global, known: &[&str], keys: &Table) -> Result<
     let Some(key) = first_unknown(keys, known) else {
         return Ok(());
     };
-    let name = Text::from_str(alloc, key)?;
-    Err(CfgFault::Unknown { name })
+    Err(unknown(alloc, key))
 }
 
 /// The fault of a name that is taken.
@@ -147,6 +185,16 @@ pub(crate) fn twice(alloc: Global, name: &str) -> CfgFault
 {
     match Text::from_str(alloc, name) {
         Ok(name) => CfgFault::Twice { name },
+        Err(_) => CfgFault::Memory,
+    }
+}
+
+/// The fault of a name that stands for nothing.
+pub(crate) fn unknown(alloc: Global, name: &str) -> CfgFault
+    ensures { Says Memory result (Unknown name.now) }
+{
+    match Text::from_str(alloc, name) {
+        Ok(name) => CfgFault::Unknown { name },
         Err(_) => CfgFault::Memory,
     }
 }
@@ -171,14 +219,33 @@ fn wrong_entry(alloc: Global, group: &str, name: &str) -> CfgFault
     }
 }
 
-fn find<'a>(table: &'a Table, key: &str) -> Option<&'a Value>
+/// What a table has under a key.
+pub(crate) fn find<'a>(table: &'a Table, key: &str) -> Option<&'a Value>
     ensures { option_map (λ v. view v.now) result ≡ get_member key.now (table_view table.now) }
 {
     table.get(key)
 }
 
+/// The text under a key.
+pub(crate) fn text_at<'a>(table: &'a Table, key: &str) -> Option<&'a str>
+    ensures { option_map (λ t. t.now) result ≡ of_shape as_str key.now (table_view table.now) }
+{
+    find(table, key)?.as_str()
+}
+
+/// The flag under a key: false where the key is absent, none where it is no flag.
+pub(crate) fn flag_at(table: &Table, key: &str) -> Option<bool>
+    ensures { let found = get_member key.now (table_view table.now) in
+        result ≡ shape_or as_bool false found }
+{
+    match find(table, key) {
+        Some(value) => value.as_bool(),
+        None => Some(false),
+    }
+}
+
 /// The first key of a table that is not known: tables go in byte order of keys.
-fn first_unknown<'a>(table: &'a Table, known: &[&str]) -> Option<&'a str>
+pub(crate) fn first_unknown<'a>(table: &'a Table, known: &[&str]) -> Option<&'a str>
     ensures { let keys = table_view table.now in
         option_map (λ k. k.now) result ≡ first_unknown (texts known.now) keys }
 {

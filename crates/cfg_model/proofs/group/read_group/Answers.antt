@@ -1,0 +1,7 @@
+use Rattle.std.proofs.Common.{sym, ap, map, subst}
+use Rattle.cfg_model.specs.Resolving.{AreAscending}
+use Rattle.cfg_model.proofs.Walks.{none-ascend}
+use Rattle.cfg_model.proofs.group.read_group.Goals as goal
+
+pub returns-in-None-clause-in_order : goal.returns-in-None-clause-in_order
+returns-in-None-clause-in_order g c = rw c.new.ensures none-ascend

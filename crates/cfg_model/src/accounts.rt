@@ -1,0 +1,257 @@
+//! The chart of accounts of a ledger: its list of tables, and what has to hold of all of them.
+ghost use Rattle.std.specs.Prelude.{◌≡◌, codes, List, ℕ, [], length, map, option_map, IfOk};
+ghost use Rattle.std.specs.Str.{bytes_eq};
+ghost use Rattle.std.specs.List.{list_any};
+ghost use Rattle.toml.specs.View.{view, array_view, table_view};
+ghost use Rattle.reg_base.specs.Results.{Gives, some_or};
+ghost use Rattle.cfg_model.specs.declared.fault.CfgFault.TheVariants.{Memory, Field};
+ghost use Rattle.cfg_model.specs.Places.{account_at as at_code};
+ghost use Rattle.cfg_model.specs.Words.{is_one_of, key_path};
+ghost use Rattle.cfg_model.specs.Walk.{of_shape, list_of, each_item};
+ghost use Rattle.cfg_model.specs.Accounts.{read_accounts, account_of, each_checked, each_once};
+ghost use Rattle.cfg_model.specs.Accounts.{parent_known, not_circular, leads_to as leads_to_code, parent_of as parent_of_code};
+ghost use Rattle.cfg_model.specs.Accounts.{agrees_in_off as agrees, by_code as by_code_of};
+ghost use Rattle.cfg_model.specs.Accounts.{few_extras as few_extras_at, has_known_parent, has_parents_off};
+ghost use Rattle.cfg_model.specs.Accounts.{put_account};
+ghost use Rattle.cfg_model.specs.AccountMaps.{AreKeyed, values_of};
+
+use crate::element::distinct;
+use crate::walk::{Entry, twice, unknown};
+use crate::{Account, CfgFault};
+use reg_base::{Code, List};
+use std::alloc::{AllocError, Global};
+use std::collections::BTreeMap;
+use toml::value::Array;
+
+/// How many accounts a ledger has at the most.
+pub const ACCOUNT_LIMIT: usize = 512;
+
+/// How many extras an account has at the most.
+pub const EXTRA_LIMIT: usize = 3;
+
+/// The accounts of a ledger, in byte order of codes.
+#[tactic(auto, unfolding(crate::specs::Accounts::read_accounts))]
+pub(crate) fn read_accounts(alloc: Global, entry: &Entry) -> Result<List<Account>, CfgFault>
+    requires { entry.now.group.now ≡ codes "ledger" }
+    ensures { let keys = table_view entry.now.keys.now in
+        Gives Memory result (read_accounts entry.now.name.now keys) }
+{
+    let accounts = accounts_at(alloc, entry)?;
+    entry.at_most(alloc, "accounts", ACCOUNT_LIMIT, accounts.len())?;
+    few_extras(alloc, entry, accounts.as_slice())?;
+    all_once(alloc, accounts.as_slice())?;
+    all_parents_known(alloc, accounts.as_slice())?;
+    none_circular(alloc, accounts.as_slice())?;
+    all_agree_in_off(alloc, entry, accounts.as_slice())?;
+    Ok(by_code(alloc, accounts)?)
+}
+
+/// The accounts that the list under the key holds, in its order.
+fn accounts_at(alloc: Global, entry: &Entry) -> Result<List<Account>, CfgFault>
+    requires { entry.now.group.now ≡ codes "ledger" }
+    ensures { let path = key_path (codes "ledger") entry.now.name.now (codes "accounts") in
+        let keys = table_view entry.now.keys.now in
+        let found = of_shape (list_of account_of) (codes "accounts") keys in
+        Gives Memory result (some_or found (Field path)) }
+{
+    let Some(value) = entry.get("accounts") else {
+        return Err(entry.wrong(alloc, "accounts"));
+    };
+    let Some(array) = value.as_array() else {
+        return Err(entry.wrong(alloc, "accounts"));
+    };
+    let Some(found) = accounts_of(alloc, array)? else {
+        return Err(entry.wrong(alloc, "accounts"));
+    };
+    Ok(found)
+}
+
+fn accounts_of(alloc: Global, array: &Array) -> Result<Option<List<Account>>, AllocError>
+    ensures { IfOk result (λ found. found ≡ each_item account_of (array_view array.now)) }
+{
+    let mut found = Vec::new(alloc);
+    'items: for item in array {
+        let Some(account) = Account::from_value(alloc, item)? else {
+            return Ok(None);
+        };
+        found.push(account)?;
+    }
+    Ok(Some(List::from_vec(found)))
+}
+
+/// Refuses an account with too many extras.
+#[tactic(auto, unfolding(crate::specs::Accounts::each_checked))]
+fn few_extras(alloc: Global, entry: &Entry, accounts: &[Account]) -> Result<(), CfgFault>
+    requires { entry.now.group.now ≡ codes "ledger" }
+    ensures { let path = key_path (codes "ledger") entry.now.name.now (codes "accounts") in
+        Gives Memory result (each_checked (few_extras_at path) accounts.now) }
+{
+    'accounts: for account in accounts {
+        entry.at_most(alloc, "accounts", EXTRA_LIMIT, account.extras.len())?;
+    }
+    Ok(())
+}
+
+/// Refuses a code that stands before, and an extra that stands twice.
+#[tactic(auto, unfolding(crate::specs::Accounts::each_once))]
+fn all_once(alloc: Global, accounts: &[Account]) -> Result<(), CfgFault>
+    ensures { Gives Memory result (each_once [] accounts.now) }
+{
+    'accounts: for (index, account) in accounts.iter().enumerate() {
+        if has_code(&accounts[..index], &account.code) {
+            return Err(twice(alloc, account.code.as_str()));
+        }
+        distinct(alloc, account.extras.as_slice())?;
+    }
+    Ok(())
+}
+
+fn has_code(accounts: &[Account], code: &Code) -> bool
+    ensures { result ≡ is_one_of (map (λ a. a.code) accounts.now) code.now }
+{
+    'accounts: for account in accounts {
+        if account.code == *code {
+            return true;
+        }
+    }
+    false
+}
+
+/// The first account of a code.
+#[tactic(auto, unfolding(crate::specs::Places::account_at))]
+pub(crate) fn account_at<'a>(accounts: &'a [Account], code: &Code) -> Option<&'a Account>
+    ensures { option_map (λ a. a.now) result ≡ at_code code.now accounts.now }
+{
+    'accounts: for account in accounts {
+        if account.code == *code {
+            return Some(account);
+        }
+    }
+    None
+}
+
+/// Refuses a parent that is no account.
+#[tactic(auto, unfolding(crate::specs::Accounts::each_checked))]
+fn all_parents_known(alloc: Global, accounts: &[Account]) -> Result<(), CfgFault>
+    ensures { Gives Memory result (each_checked (has_known_parent accounts.now) accounts.now) }
+{
+    'accounts: for account in accounts {
+        check_parent(alloc, accounts, &account.parent)?;
+    }
+    Ok(())
+}
+
+#[tactic(auto, unfolding(crate::specs::Accounts::parent_known))]
+fn check_parent(alloc: Global, accounts: &[Account], parent: &Option<Code>) -> Result<(), CfgFault>
+    ensures { Gives Memory result (parent_known accounts.now parent.now) }
+{
+    let Some(code) = parent else {
+        return Ok(());
+    };
+    if account_at(accounts, code).is_none() {
+        return Err(unknown(alloc, code.as_str()));
+    }
+    Ok(())
+}
+
+/// Refuses an account whose parents lead back to it.
+#[tactic(auto, unfolding(crate::specs::Accounts::each_checked))]
+fn none_circular(alloc: Global, accounts: &[Account]) -> Result<(), CfgFault>
+    ensures { Gives Memory result (each_checked (not_circular accounts.now) accounts.now) }
+{
+    'accounts: for account in accounts {
+        if leads_back(accounts, account) {
+            return Err(twice(alloc, account.code.as_str()));
+        }
+    }
+    Ok(())
+}
+
+/// Whether the parents of an account lead back to it.
+#[tactic(auto, unfolding(crate::specs::Accounts::leads_to))]
+fn leads_back(accounts: &[Account], account: &Account) -> bool
+    ensures { let steps = length accounts.now in
+        result ≡ leads_to_code steps accounts.now account.now.code account.now.parent }
+{
+    let mut next = account.parent;
+    'steps: for _ in 0..accounts.len() {
+        let Some(parent) = next else {
+            return false;
+        };
+        if parent == account.code {
+            return true;
+        }
+        next = parent_of(accounts, &parent);
+    }
+    false
+}
+
+/// The parent of the account of a code.
+fn parent_of(accounts: &[Account], code: &Code) -> Option<Code>
+    ensures { result ≡ parent_of_code accounts.now code.now }
+{
+    account_at(accounts, code)?.parent
+}
+
+/// Refuses an account that is off-balance where its parent is not, or the other way round.
+#[tactic(auto, unfolding(crate::specs::Accounts::each_checked))]
+fn all_agree_in_off(alloc: Global, entry: &Entry, accounts: &[Account]) -> Result<(), CfgFault>
+    requires { entry.now.group.now ≡ codes "ledger" }
+    ensures { let path = key_path (codes "ledger") entry.now.name.now (codes "accounts") in
+        Gives Memory result (each_checked (has_parents_off path accounts.now) accounts.now) }
+{
+    'accounts: for account in accounts {
+        if !agrees_in_off(accounts, account) {
+            return Err(entry.wrong(alloc, "accounts"));
+        }
+    }
+    Ok(())
+}
+
+#[tactic(auto, unfolding(crate::specs::Accounts::agrees_in_off))]
+fn agrees_in_off(accounts: &[Account], account: &Account) -> bool
+    ensures { result ≡ agrees accounts.now account.now.off account.now.parent }
+{
+    let Some(parent) = &account.parent else {
+        return true;
+    };
+    match account_at(accounts, parent) {
+        Some(found) => found.off == account.off,
+        None => false,
+    }
+}
+
+/// The accounts in byte order of codes.
+fn by_code(alloc: Global, accounts: List<Account>) -> Result<List<Account>, AllocError>
+    ensures { IfOk result (λ sorted. sorted ≡ by_code_of accounts) }
+{
+    let mut by_code = BTreeMap::new(alloc);
+    'accounts: for account in accounts.into_vec() {
+        enter(&mut by_code, account)?;
+    }
+    accounts_in_order(alloc, by_code)
+}
+
+/// Puts an account under its code.
+fn enter(by_code: &mut BTreeMap<Code, Account>, account: Account) -> Result<(), AllocError>
+    requires { AreKeyed by_code.old.entries }
+    ensures values { IfOk result (λ _. values_of by_code.new.entries
+        ≡ put_account account (values_of by_code.old.entries)) }
+    ensures keyed { IfOk result (λ _. AreKeyed by_code.new.entries) }
+{
+    by_code.insert(account.code, account)?;
+    Ok(())
+}
+
+fn accounts_in_order(
+    alloc: Global,
+    by_code: BTreeMap<Code, Account>,
+) -> Result<List<Account>, AllocError>
+    ensures { IfOk result (λ sorted. sorted ≡ values_of by_code.entries) }
+{
+    let mut sorted = List::new(alloc);
+    for (_, account) in by_code {
+        sorted.push(account)?;
+    }
+    Ok(sorted)
+}
