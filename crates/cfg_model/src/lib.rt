@@ -25,6 +25,10 @@ mod sequence;
 #[cfg(test)]
 mod test_files;
 #[cfg(test)]
+mod test_shop;
+#[cfg(test)]
+mod test_told;
+#[cfg(test)]
 mod tests;
 mod walk;
 

@@ -1,7 +1,9 @@
 //! What the walk through small files answers, and what the program does with what it read.
 use crate::test_files::{ACCOUNTS, DOCUMENTS, FILES, REGISTERS, SEQUENCES, SHOP};
-use crate::{CfgFault, Config};
-use reg_base::{Memory, Name};
+use crate::test_shop::{CHART, CHART_TOLD, ENTRIES, GivenSide, WHOLE_SHOP, WHOLE_SHOP_TOLD};
+use crate::test_told::told;
+use crate::{CfgFault, Chart, Config, EntryFault, check_entry};
+use reg_base::{Code, List, Memory, Name, Side};
 use std::alloc::{AllocError, Global};
 use std::process::Abort;
 use std::test::Fail;
@@ -117,5 +119,63 @@ fn registers_and_clerks_stand_in_byte_order_of_names(rt: HostRuntime) -> Result<
         resources = ['amount:2']\n[clerk.boris]\nrights = []\n[clerk.anna]\nrights = ['read']\n";
     let config = Config::read(rt.alloc(), file.as_bytes())?;
     assert_eq!(rt; places(&config), Some((1, 0)));
+    Ok(())
+}
+
+#[test]
+fn a_whole_configuration_is_read_with_all_that_it_says(rt: HostRuntime) -> Result<(), Fail> {
+    for (file, text) in [(WHOLE_SHOP, WHOLE_SHOP_TOLD), (CHART, CHART_TOLD)] {
+        let config = Config::read(rt.alloc(), file.as_bytes())?;
+        assert_eq!(rt; told(rt.alloc(), &config)?.as_str(), text);
+    }
+    Ok(())
+}
+
+/// The side of an account that gives so many extras.
+fn side(alloc: Global, given: &GivenSide) -> Result<Option<Side>, Fail> {
+    let Some((account, count)) = given else {
+        return Ok(None);
+    };
+    let account = Code::parse(account).ok_or("the account is a code")?;
+    let mut extras = List::new(alloc);
+    for _ in 0..*count {
+        extras.push(account)?;
+    }
+    Ok(Some(Side { account, extras }))
+}
+
+/// Asks that the chart accepts the entry, or tells this fault of it.
+fn expect_entry(
+    rt: &impl Abort,
+    alloc: Global,
+    chart: &Chart,
+    debit: &GivenSide,
+    credit: &GivenSide,
+    answer: &Result<(), EntryFault>,
+) -> Result<(), Fail> {
+    let checked = check_entry(chart, &side(alloc, debit)?, &side(alloc, credit)?);
+    assert_eq!(rt; checked, *answer, "debit {debit:?}, credit {credit:?}");
+    Ok(())
+}
+
+#[test]
+fn an_entry_is_accepted_or_answered_with_its_first_fault(rt: HostRuntime) -> Result<(), Fail> {
+    let config = Config::read(rt.alloc(), CHART.as_bytes())?;
+    let chart = config.ledgers.get(0).ok_or("there is a ledger")?;
+    for (debit, credit, answer) in &ENTRIES {
+        expect_entry(&rt, rt.alloc(), chart, debit, credit, answer)?;
+    }
+    Ok(())
+}
+
+#[test]
+fn an_entry_of_goods_gives_the_item(rt: HostRuntime) -> Result<(), Fail> {
+    let config = Config::read(rt.alloc(), WHOLE_SHOP.as_bytes())?;
+    let chart = config.ledgers.get(0).ok_or("there is a ledger")?;
+    let suppliers = Some(("60", 0));
+    for (goods, answer) in [(0, Err(EntryFault::ExtraCount)), (1, Ok(()))] {
+        let debit = Some(("10", goods));
+        expect_entry(&rt, rt.alloc(), chart, &debit, &suppliers, &answer)?;
+    }
     Ok(())
 }
