@@ -10,7 +10,7 @@ use Rattle.std.specs.BTreeMap.{insert_entry}
 use Rattle.std.proofs.lemmas.Cmp.{nat_list_cmp_total}
 use Rattle.std.proofs.lemmas.Map.Lookups.{exact_bytes}
 use Rattle.toml.specs.Data.{Members}
-use Rattle.reg_base.specs.Results.{◌>>=◌, unless, some_or}
+use Rattle.reg_base.specs.Results.{some_or}
 use Rattle.cfg_model.specs.declared.account.Account.{Account}
 use Rattle.cfg_model.specs.declared.fault.CfgFault.{CfgFault}
 use Rattle.cfg_model.specs.declared.fault.CfgFault.TheVariants.{Field, Unknown}

@@ -1,17 +1,16 @@
 -- A configuration that is read keeps to its limits, is in order, and its names resolve.
-use Rattle.std.proofs.Common.{◌≡◌, ℕ, ◌≤◌, length, List, [], map, Result, Ok, Err, IfOk, codes, subst, IfSome, true, ◌∷◌}
-use Rattle.std.specs.Prelude.{is_some}
+use Rattle.std.proofs.Common.{◌≡◌, ℕ, List, [], Result, Ok, Err, IfOk, codes, subst, ◌∷◌}
 use Rattle.std.specs.List.{AllByRecursion}
 use Rattle.std.proofs.lemmas.List.Elements.{All-from_recursion}
 use Rattle.toml.specs.Data.{Data, Members}
-use Rattle.reg_base.specs.Results.{◌>>=◌, Gives}
+use Rattle.reg_base.specs.Results.{Gives}
 use Rattle.cfg_model.specs.declared.fault.CfgFault.{CfgFault}
 use Rattle.cfg_model.specs.declared.fault.CfgFault.TheVariants.{Memory}
 use Rattle.cfg_model.specs.declared.config.Config.{Config}
 use Rattle.cfg_model.specs.declared.register.Register.{Register}
 use Rattle.cfg_model.specs.declared.ledger.Chart.{Chart}
 use Rattle.cfg_model.specs.Words.{group_keys, ledger_keys}
-use Rattle.cfg_model.specs.Limits.{register_limit, ledger_limit, document_limit, sequence_limit, clerk_limit, scale_limit, IsWithinLimits, IsRegisterWithinLimits, IsChartWithinLimits, IsKindWithinLimits}
+use Rattle.cfg_model.specs.Limits.{register_limit, ledger_limit, document_limit, sequence_limit, clerk_limit, IsWithinLimits, IsRegisterWithinLimits, IsChartWithinLimits, IsKindWithinLimits}
 use Rattle.cfg_model.specs.Walk.{entry_keys, known_keys, read_group}
 use Rattle.cfg_model.specs.Resolving.{HasNamesInOrder, IsInOrder, HasAccountsInOrder, HasParents, HasNames, NamesResolve}
 use Rattle.cfg_model.specs.Registers.{read_register, read_split}

@@ -5,3 +5,4 @@ pub mod RegisterLemmas
 pub mod SequenceLemmas
 pub mod ChartLemmas
 pub mod ConfigLemmas
+mod WorkedRows

@@ -1,13 +1,13 @@
 -- A register, a document type and a sequence that are read keep to their limits and resolve.
-use Rattle.std.proofs.Common.{◌≡◌, ℕ, ℤ, pos, negsuc, ◌-◌, ◌≤◌, ◌&&◌, nat_le, true, false, Bool, cond, List, [], ◌∷◌, length, Option, Some, None, option_and_then, option_map, Result, Ok, codes, sym, ap, subst, arith, IfSome, refl}
-use Rattle.std.specs.List.{All, AllByRecursion, list_all}
+use Rattle.std.proofs.Common.{◌≡◌, ℕ, ℤ, pos, negsuc, ◌-◌, ◌≤◌, ◌&&◌, nat_le, true, false, Bool, cond, List, [], ◌∷◌, length, Option, Some, None, option_and_then, option_map, Ok, codes, subst, arith, IfSome}
+use Rattle.std.specs.List.{AllByRecursion}
 use Rattle.std.specs.Str.{bytes_eq}
 use Rattle.std.proofs.lemmas.Bool.{and_parts}
 use Rattle.std.proofs.lemmas.Bool.Decides.{nat_tests}
 use Rattle.std.proofs.lemmas.List.Elements.{All-from_recursion}
 use Rattle.std.proofs.lemmas.Option.{same_Some}
 use Rattle.toml.specs.Data.{Data, Members, get_member, as_str, as_integer}
-use Rattle.reg_base.specs.Results.{◌>>=◌, unless, some_or}
+use Rattle.reg_base.specs.Results.{unless, some_or}
 use Rattle.cfg_model.specs.declared.register.Register.{Register}
 use Rattle.cfg_model.specs.declared.register.Dimension.{Dimension}
 use Rattle.cfg_model.specs.declared.register.Resource.{Resource}
@@ -17,7 +17,7 @@ use Rattle.cfg_model.specs.declared.fault.CfgFault.TheVariants.{Field}
 use Rattle.cfg_model.specs.Elements.{at_colon, name_of, scale_of, resource_of, dimension_of, field_of, field_scale_of}
 use Rattle.cfg_model.specs.Limits.{dimension_limit, resource_limit, field_limit, scale_limit, IsRegisterWithinLimits, IsKindWithinLimits}
 use Rattle.cfg_model.specs.Words.{key_path, register_keys, document_keys}
-use Rattle.cfg_model.specs.Walk.{at_most, distinct, entry_keys, of_shape, text_list}
+use Rattle.cfg_model.specs.Walk.{at_most, entry_keys, of_shape, text_list}
 use Rattle.cfg_model.specs.Registers.{read_register, read_balance, read_dimensions, read_resources, read_split}
 use Rattle.cfg_model.specs.Kinds.{read_kind, read_fields}
 use Rattle.cfg_model.specs.Ledgers.{read_scale, scale_number}

@@ -1,9 +1,9 @@
 -- The names of a sequence that is read resolve.
-use Rattle.std.proofs.Common.{◌≡◌, ℕ, nat_le, true, false, List, [], ◌∷◌, length, Result, Ok, codes, subst, arith}
+use Rattle.std.proofs.Common.{◌≡◌, ℕ, true, List, [], Ok, codes, subst}
 use Rattle.std.specs.List.{AllByRecursion, list_all}
 use Rattle.std.proofs.lemmas.List.Elements.{All-from_recursion}
 use Rattle.toml.specs.Data.{Data, Members}
-use Rattle.reg_base.specs.Results.{◌>>=◌, unless}
+use Rattle.reg_base.specs.Results.{unless}
 use Rattle.cfg_model.specs.declared.register.Register.{Register}
 use Rattle.cfg_model.specs.declared.kind.Kind.{Kind}
 use Rattle.cfg_model.specs.declared.sequence.Sequence.{Sequence}

@@ -1,5 +1,5 @@
 -- Why a chart of accounts refuses an entry.
-use Rattle.std.specs.Prelude.{ℕ, ◌==◌, ◌&&◌, not, true, false, Bool, List, length, Option, Some, None, is_some, Result, Ok}
+use Rattle.std.specs.Prelude.{ℕ, ◌==◌, ◌&&◌, not, true, false, Bool, List, length, Option, Some, None, is_some, Result}
 use Rattle.std.specs.Bool.{beq}
 use Rattle.std.specs.List.{list_any}
 use Rattle.std.specs.Str.{bytes_eq}

@@ -1,5 +1,5 @@
 -- The register that an entry holds, or its first fault.
-use Rattle.std.specs.Prelude.{ℕ, codes, nat_le, true, false, Bool, List, [], length, Option, Some, None, option_and_then, Result, Ok, if◌then◌else◌}
+use Rattle.std.specs.Prelude.{ℕ, codes, nat_le, true, false, Bool, List, [], length, Option, Some, None, Result, Ok, if◌then◌else◌}
 use Rattle.std.specs.Str.{bytes_eq}
 use Rattle.toml.specs.Data.{Data, Members, get_member, as_bool}
 use Rattle.reg_base.specs.Results.{◌>>=◌, unless, some_or}

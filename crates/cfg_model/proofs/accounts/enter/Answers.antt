@@ -1,5 +1,5 @@
 use Rattle.std.proofs.Common.{ap, ◌∙◌, subst, sym}
-use Rattle.cfg_model.specs.AccountMaps.{Keyed, AreKeyed, values_of}
+use Rattle.cfg_model.specs.AccountMaps.{AreKeyed, values_of}
 use Rattle.cfg_model.proofs.ChartLemmas.{put_account-entry, AreKeyed-entry}
 use Rattle.cfg_model.proofs.accounts.enter.Goals as goal
 

@@ -1,4 +1,4 @@
-use Rattle.std.proofs.Common.{◌≡◌, sym, ◌∙◌}
+use Rattle.std.proofs.Common.{sym, ◌∙◌}
 use Rattle.cfg_model.proofs.ChartLemmas.{leads_to-next}
 use Rattle.cfg_model.proofs.accounts.leads_back.Goals as goal
 

@@ -1,5 +1,3 @@
-use Rattle.std.proofs.Common.{sym, ap, map, subst}
-use Rattle.cfg_model.specs.Resolving.{AreAscending}
 use Rattle.cfg_model.proofs.Walks.{none-ascend}
 use Rattle.cfg_model.proofs.group.read_group.Goals as goal
 

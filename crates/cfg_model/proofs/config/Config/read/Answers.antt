@@ -2,8 +2,8 @@
 
 use Rattle.cfg_model.specs.declared.fault.CfgFault.TheVariants.{Memory}
 use Rattle.cfg_model.specs.Limits.{IsWithinLimits}
-use Rattle.cfg_model.specs.Resolving.{HasNamesInOrder, IsInOrder, NamesResolve}
-use Rattle.cfg_model.proofs.ConfigLemmas.{Holds, config_of-holds, in_order-from}
+use Rattle.cfg_model.specs.Resolving.{NamesResolve}
+use Rattle.cfg_model.proofs.ConfigLemmas.{config_of-holds, in_order-from}
 use Rattle.cfg_model.proofs.Steps.{IfOk-from_Gives}
 use Rattle.cfg_model.proofs.config.Config.read.Goals as goal
 
