@@ -4,5 +4,6 @@ pub mod ListLemmas
 pub mod RegisterLemmas
 pub mod SequenceLemmas
 pub mod ChartLemmas
+pub mod PlaceLemmas
 pub mod ConfigLemmas
 mod WorkedRows

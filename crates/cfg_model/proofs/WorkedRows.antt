@@ -269,8 +269,12 @@ off_differs = refl
 
 -- a ledger may not have the name of a register
 taken_name : read_ledger (record {
-      name = codes "main"; balance = true; dimensions = []; resources = []; split = false;
-    } ∷ []) (codes "main") (table no_members) ≡ Err (Twice (codes "main"))
+  name = codes "main";
+  balance = true;
+  dimensions = [];
+  resources = [];
+  split = false;
+} ∷ []) (codes "main") (table no_members) ≡ Err (Twice (codes "main"))
 unfolding read_ledger entry_keys is_name
 taken_name = refl
 

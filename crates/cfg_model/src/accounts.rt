@@ -1,9 +1,10 @@
 //! The chart of accounts of a ledger: its list of tables, and what has to hold of all of them.
-ghost use Rattle.std.specs.Prelude.{◌≡◌, codes, List, ℕ, [], length, map, option_map, IfOk};
+ghost use Rattle.std.specs.Prelude.{◌≡◌, codes, List, ℕ, [], length, map, option_map, IfOk, Some as There, if◌then◌else◌};
+ghost use Rattle.cfg_model.specs.declared.account.Account.{Account};
 ghost use Rattle.std.specs.Str.{bytes_eq};
 ghost use Rattle.std.specs.List.{list_any};
 ghost use Rattle.toml.specs.View.{view, array_view, table_view};
-ghost use Rattle.reg_base.specs.Results.{Gives, some_or};
+ghost use Rattle.reg_base.specs.Results.{Gives, GivesAs, some_or};
 ghost use Rattle.cfg_model.specs.declared.fault.CfgFault.TheVariants.{Memory, Field};
 ghost use Rattle.cfg_model.specs.Places.{account_at as at_code};
 ghost use Rattle.cfg_model.specs.Words.{is_one_of, key_path};
@@ -13,7 +14,7 @@ ghost use Rattle.cfg_model.specs.Accounts.{parent_known, not_circular, leads_to 
 ghost use Rattle.cfg_model.specs.Accounts.{agrees_in_off as agrees, by_code as by_code_of};
 ghost use Rattle.cfg_model.specs.Accounts.{few_extras as few_extras_at, has_known_parent, has_parents_off};
 ghost use Rattle.cfg_model.specs.Accounts.{put_account};
-ghost use Rattle.cfg_model.specs.AccountMaps.{AreKeyed, values_of};
+ghost use Rattle.cfg_model.specs.AccountMaps.{AreKeyed, values_of, place_at, LeadsToPlaces};
 
 use crate::element::distinct;
 use crate::walk::{Entry, twice, unknown};
@@ -39,10 +40,10 @@ pub(crate) fn read_accounts(alloc: Global, entry: &Entry) -> Result<List<Account
     let accounts = accounts_at(alloc, entry)?;
     entry.at_most(alloc, "accounts", ACCOUNT_LIMIT, accounts.len())?;
     few_extras(alloc, entry, accounts.as_slice())?;
-    all_once(alloc, accounts.as_slice())?;
-    all_parents_known(alloc, accounts.as_slice())?;
-    none_circular(alloc, accounts.as_slice())?;
-    all_agree_in_off(alloc, entry, accounts.as_slice())?;
+    let places = places_of(alloc, accounts.as_slice())?;
+    all_parents_known(alloc, accounts.as_slice(), &places)?;
+    none_circular(alloc, accounts.as_slice(), &places)?;
+    all_agree_in_off(alloc, entry, accounts.as_slice(), &places)?;
     Ok(by_code(alloc, accounts)?)
 }
 
@@ -92,63 +93,88 @@ fn few_extras(alloc: Global, entry: &Entry, accounts: &[Account]) -> Result<(), 
     Ok(())
 }
 
-/// Refuses a code that stands before, and an extra that stands twice.
+/// The places of accounts by their codes; refuses a code that stands before, and an extra that
+/// stands twice.
 #[tactic(auto, unfolding(crate::specs::Accounts::each_once))]
-fn all_once(alloc: Global, accounts: &[Account]) -> Result<(), CfgFault>
-    ensures { Gives Memory result (each_once [] accounts.now) }
+fn places_of(alloc: Global, accounts: &[Account]) -> Result<BTreeMap<Code, usize>, CfgFault>
+    ensures once { GivesAs Memory (λ _. tt) result (each_once [] accounts.now) }
+    ensures places { IfOk result (λ places. LeadsToPlaces places.entries accounts.now) }
 {
+    let mut places = BTreeMap::new(alloc);
     'accounts: for (index, account) in accounts.iter().enumerate() {
-        if has_code(&accounts[..index], &account.code) {
+        if has_code(&places, &account.code) {
             return Err(twice(alloc, account.code.as_str()));
         }
         distinct(alloc, account.extras.as_slice())?;
+        put_place(&mut places, account.code, index)?;
     }
+    Ok(places)
+}
+
+/// Whether one of the accounts that the map leads to has the code.
+fn has_code(places: &BTreeMap<Code, usize>, code: &Code) -> bool
+    ensures { (accounts : List Account) → LeadsToPlaces places.now.entries accounts
+        → result ≡ is_one_of (map (λ a. a.code) accounts) code.now }
+{
+    place_of(places, code).is_some()
+}
+
+fn place_of(places: &BTreeMap<Code, usize>, code: &Code) -> Option<usize>
+    ensures { result ≡ place_at code.now places.now.entries }
+{
+    places.get(code).copied()
+}
+
+fn put_place(places: &mut BTreeMap<Code, usize>, code: Code, place: usize) -> Result<(), AllocError>
+    ensures { IfOk result (λ _. (q : List ℕ) → place_at q places.new.entries
+        ≡ (if bytes_eq code q then There place else place_at q places.old.entries)) }
+{
+    places.insert(code, place)?;
     Ok(())
 }
 
-fn has_code(accounts: &[Account], code: &Code) -> bool
-    ensures { result ≡ is_one_of (map (λ a. a.code) accounts.now) code.now }
-{
-    'accounts: for account in accounts {
-        if account.code == *code {
-            return true;
-        }
-    }
-    false
-}
-
-/// The first account of a code.
-#[tactic(auto, unfolding(crate::specs::Places::account_at))]
-pub(crate) fn account_at<'a>(accounts: &'a [Account], code: &Code) -> Option<&'a Account>
+/// The account of a code.
+fn account_at<'a>(
+    accounts: &'a [Account],
+    places: &BTreeMap<Code, usize>,
+    code: &Code,
+) -> Option<&'a Account>
+    requires { LeadsToPlaces places.now.entries accounts.now }
     ensures { option_map (λ a. a.now) result ≡ at_code code.now accounts.now }
 {
-    'accounts: for account in accounts {
-        if account.code == *code {
-            return Some(account);
-        }
-    }
-    None
+    accounts.get(place_of(places, code)?)
 }
 
 /// Refuses a parent that is no account.
 #[tactic(auto, unfolding(crate::specs::Accounts::each_checked))]
-fn all_parents_known(alloc: Global, accounts: &[Account]) -> Result<(), CfgFault>
+fn all_parents_known(
+    alloc: Global,
+    accounts: &[Account],
+    places: &BTreeMap<Code, usize>,
+) -> Result<(), CfgFault>
+    requires { LeadsToPlaces places.now.entries accounts.now }
     ensures { Gives Memory result (each_checked (has_known_parent accounts.now) accounts.now) }
 {
     'accounts: for account in accounts {
-        check_parent(alloc, accounts, &account.parent)?;
+        check_parent(alloc, accounts, places, &account.parent)?;
     }
     Ok(())
 }
 
 #[tactic(auto, unfolding(crate::specs::Accounts::parent_known))]
-fn check_parent(alloc: Global, accounts: &[Account], parent: &Option<Code>) -> Result<(), CfgFault>
+fn check_parent(
+    alloc: Global,
+    accounts: &[Account],
+    places: &BTreeMap<Code, usize>,
+    parent: &Option<Code>,
+) -> Result<(), CfgFault>
+    requires { LeadsToPlaces places.now.entries accounts.now }
     ensures { Gives Memory result (parent_known accounts.now parent.now) }
 {
     let Some(code) = parent else {
         return Ok(());
     };
-    if account_at(accounts, code).is_none() {
+    if account_at(accounts, places, code).is_none() {
         return Err(unknown(alloc, code.as_str()));
     }
     Ok(())
@@ -156,11 +182,16 @@ fn check_parent(alloc: Global, accounts: &[Account], parent: &Option<Code>) -> R
 
 /// Refuses an account whose parents lead back to it.
 #[tactic(auto, unfolding(crate::specs::Accounts::each_checked))]
-fn none_circular(alloc: Global, accounts: &[Account]) -> Result<(), CfgFault>
+fn none_circular(
+    alloc: Global,
+    accounts: &[Account],
+    places: &BTreeMap<Code, usize>,
+) -> Result<(), CfgFault>
+    requires { LeadsToPlaces places.now.entries accounts.now }
     ensures { Gives Memory result (each_checked (not_circular accounts.now) accounts.now) }
 {
     'accounts: for account in accounts {
-        if leads_back(accounts, account) {
+        if leads_back(accounts, places, account) {
             return Err(twice(alloc, account.code.as_str()));
         }
     }
@@ -169,7 +200,8 @@ fn none_circular(alloc: Global, accounts: &[Account]) -> Result<(), CfgFault>
 
 /// Whether the parents of an account lead back to it.
 #[tactic(auto, unfolding(crate::specs::Accounts::leads_to))]
-fn leads_back(accounts: &[Account], account: &Account) -> bool
+fn leads_back(accounts: &[Account], places: &BTreeMap<Code, usize>, account: &Account) -> bool
+    requires { LeadsToPlaces places.now.entries accounts.now }
     ensures { let steps = length accounts.now in
         result ≡ leads_to_code steps accounts.now account.now.code account.now.parent }
 {
@@ -181,27 +213,34 @@ fn leads_back(accounts: &[Account], account: &Account) -> bool
         if parent == account.code {
             return true;
         }
-        next = parent_of(accounts, &parent);
+        next = parent_of(accounts, places, &parent);
     }
     false
 }
 
 /// The parent of the account of a code.
-fn parent_of(accounts: &[Account], code: &Code) -> Option<Code>
+fn parent_of(accounts: &[Account], places: &BTreeMap<Code, usize>, code: &Code) -> Option<Code>
+    requires { LeadsToPlaces places.now.entries accounts.now }
     ensures { result ≡ parent_of_code accounts.now code.now }
 {
-    account_at(accounts, code)?.parent
+    account_at(accounts, places, code)?.parent
 }
 
 /// Refuses an account that is off-balance where its parent is not, or the other way round.
 #[tactic(auto, unfolding(crate::specs::Accounts::each_checked))]
-fn all_agree_in_off(alloc: Global, entry: &Entry, accounts: &[Account]) -> Result<(), CfgFault>
-    requires { entry.now.group.now ≡ codes "ledger" }
+fn all_agree_in_off(
+    alloc: Global,
+    entry: &Entry,
+    accounts: &[Account],
+    places: &BTreeMap<Code, usize>,
+) -> Result<(), CfgFault>
+    requires group { entry.now.group.now ≡ codes "ledger" }
+    requires places { LeadsToPlaces places.now.entries accounts.now }
     ensures { let path = key_path (codes "ledger") entry.now.name.now (codes "accounts") in
         Gives Memory result (each_checked (has_parents_off path accounts.now) accounts.now) }
 {
     'accounts: for account in accounts {
-        if !agrees_in_off(accounts, account) {
+        if !agrees_in_off(accounts, places, account) {
             return Err(entry.wrong(alloc, "accounts"));
         }
     }
@@ -209,13 +248,14 @@ fn all_agree_in_off(alloc: Global, entry: &Entry, accounts: &[Account]) -> Resul
 }
 
 #[tactic(auto, unfolding(crate::specs::Accounts::agrees_in_off))]
-fn agrees_in_off(accounts: &[Account], account: &Account) -> bool
+fn agrees_in_off(accounts: &[Account], places: &BTreeMap<Code, usize>, account: &Account) -> bool
+    requires { LeadsToPlaces places.now.entries accounts.now }
     ensures { result ≡ agrees accounts.now account.now.off account.now.parent }
 {
     let Some(parent) = &account.parent else {
         return true;
     };
-    match account_at(accounts, parent) {
+    match account_at(accounts, places, parent) {
         Some(found) => found.off == account.off,
         None => false,
     }

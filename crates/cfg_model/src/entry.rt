@@ -5,7 +5,6 @@ ghost use Rattle.cfg_model.specs.Places.{account_at as at_code};
 ghost use Rattle.cfg_model.specs.Entries.{entry_check, of_side, has_account, is_leaf, has_extras};
 ghost use Rattle.cfg_model.specs.Entries.{is_off_balance, is_parent, sides_fit};
 
-use crate::accounts::account_at;
 use crate::{Account, Chart, EntryFault};
 use reg_base::{Code, Side};
 
@@ -115,4 +114,17 @@ fn has_parent(account: &Account, code: &Code) -> bool
         Some(parent) => *parent == *code,
         None => false,
     }
+}
+
+/// The first account of a code.
+#[tactic(auto, unfolding(crate::specs::Places::account_at))]
+fn account_at<'a>(accounts: &'a [Account], code: &Code) -> Option<&'a Account>
+    ensures { option_map (λ a. a.now) result ≡ at_code code.now accounts.now }
+{
+    'accounts: for account in accounts {
+        if account.code == *code {
+            return Some(account);
+        }
+    }
+    None
 }

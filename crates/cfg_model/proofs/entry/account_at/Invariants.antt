@@ -1,6 +1,6 @@
 use Rattle.std.proofs.Common.{◌≡◌, drop}
 use Rattle.cfg_model.specs.Places.{account_at}
-use Rattle.cfg_model.proofs.accounts.account_at.Given as goal
+use Rattle.cfg_model.proofs.entry.account_at.Given as goal
 
 abbrev pub invariant-accounts : goal.invariant-accounts
 invariant-accounts l =

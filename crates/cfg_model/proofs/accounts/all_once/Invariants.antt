@@ -1,8 +1,0 @@
-use Rattle.std.proofs.Common.{◌≡◌, [], map, take, drop}
-use Rattle.cfg_model.specs.Accounts.{each_once}
-use Rattle.cfg_model.proofs.accounts.all_once.Given as goal
-
-abbrev pub invariant-accounts : goal.invariant-accounts
-invariant-accounts l =
-    each_once (map (λ a. a.code) (take l.index l.accounts)) (drop l.index l.accounts)
-    ≡ each_once [] l.accounts
