@@ -8,6 +8,7 @@ pub mod Accounts
 pub mod AccountMaps
 pub mod Ledgers
 pub mod Kinds
+pub mod Labels
 pub mod Sequences
 pub mod Clerks
 pub mod Reading

@@ -1,18 +1,20 @@
 //! Lists of texts, each of which spells an element.
-ghost use Rattle.std.specs.Prelude.{◌≡◌, ℕ, Bool, List, [], map, Option, option_map, IfOk};
-ghost use Rattle.std.specs.List.{list_any};
+ghost use Rattle.std.specs.Prelude.{◌≡◌, ℕ, Bool, true, not, List, [], Option, option_map, IfOk, if◌then◌else◌};
+ghost use Rattle.std.specs.Str.{bytes_eq};
 ghost use Rattle.toml.specs.View.{array_view, table_view, view};
 ghost use Rattle.reg_base.specs.Results.{Gives, GivesAs, some_or};
 ghost use Rattle.cfg_model.specs.declared.fault.CfgFault.TheVariants.{Memory, Field};
 ghost use Rattle.cfg_model.specs.Elements.{name_of};
-ghost use Rattle.cfg_model.specs.Words.{is_one_of, key_path};
+ghost use Rattle.cfg_model.specs.Labels.{has_label};
+ghost use Rattle.cfg_model.specs.Words.{key_path};
 ghost use Rattle.cfg_model.specs.Walk.{of_shape, each_item, text_of, text_list, distinct};
-ghost use Rattle.cfg_model.specs.Walk.{is_second, first_second};
+ghost use Rattle.cfg_model.specs.Walk.{first_second};
 
 use crate::CfgFault;
 use crate::walk::{Entry, twice};
 use reg_base::{List, Name};
 use std::alloc::{AllocError, Global};
+use std::collections::BTreeSet;
 use toml::Value;
 use toml::value::Array;
 
@@ -108,48 +110,34 @@ fn spelled<E: Element>(alloc: Global, array: &Array) -> Result<Option<List<E>>, 
 pub(crate) fn distinct<E: Element>(alloc: Global, found: &[E]) -> Result<(), CfgFault>
     ensures { GivesAs Memory (λ _. found.now) result (distinct E.label_of E.sole found.now) }
 {
-    match first_second(found) {
+    match first_second(alloc, found)? {
         Some(element) => Err(twice(alloc, element.label())),
         None => Ok(()),
     }
 }
 
 /// The first element that may not stand behind those before it.
-fn first_second<E: Element>(found: &[E]) -> Option<&E>
-    ensures { option_map (λ e. e.now) result ≡ first_second E.label_of E.sole [] found.now }
+fn first_second<E: Element>(alloc: Global, found: &[E]) -> Result<Option<&E>, AllocError>
+    ensures { let second = first_second E.label_of E.sole [] found.now in
+        IfOk result (λ told. option_map (λ e. e.now) told ≡ second) }
 {
-    'elements: for (index, element) in found.iter().enumerate() {
-        if is_second(&found[..index], element) {
-            return Some(element);
-        }
-    }
-    None
-}
-
-fn is_second<E: Element>(found: &[E], element: &E) -> bool
-    ensures { result ≡ is_second E.label_of E.sole found.now element.now }
-{
-    has_label(found, element.label()) || (element.is_sole() && has_sole(found))
-}
-
-fn has_label<E: Element>(found: &[E], label: &str) -> bool
-    ensures { result ≡ is_one_of (map E.label_of found.now) label.now }
-{
+    let mut labels = BTreeSet::new(alloc);
+    let mut has_sole = false;
     'elements: for element in found {
-        if element.label() == label {
-            return true;
+        let is_new = put_label(&mut labels, element.label())?;
+        if !is_new || (element.is_sole() && has_sole) {
+            return Ok(Some(element));
         }
+        has_sole = has_sole || element.is_sole();
     }
-    false
+    Ok(None)
 }
 
-fn has_sole<E: Element>(found: &[E]) -> bool
-    ensures { result ≡ list_any E.sole found.now }
+/// Puts a label among those that are kept, and says whether it is a new one.
+fn put_label<'a>(labels: &mut BTreeSet<&'a str>, label: &'a str) -> Result<bool, AllocError>
+    ensures new { IfOk result (λ is_new. is_new ≡ not (has_label label.now labels.old.keys)) }
+    ensures labels { IfOk result (λ _. (q : List ℕ) → has_label q labels.new.keys
+        ≡ (if bytes_eq label.now q then true else has_label q labels.old.keys)) }
 {
-    'elements: for element in found {
-        if element.is_sole() {
-            return true;
-        }
-    }
-    false
+    Ok(labels.insert(label)?)
 }

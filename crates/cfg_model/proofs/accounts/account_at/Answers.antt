@@ -1,4 +1,4 @@
-use Rattle.std.proofs.Common.{◌≡◌, rules, ap, sym, ◌∙◌, option_and_then}
+use Rattle.std.proofs.Common.{rules, ap, sym, ◌∙◌, option_and_then}
 use Rattle.std.specs.Prelude.{slice_get}
 use Rattle.cfg_model.proofs.PlaceLemmas.{account_at-place, slice_get-found}
 use Rattle.cfg_model.proofs.accounts.account_at.Goals as goal

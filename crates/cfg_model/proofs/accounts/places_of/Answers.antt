@@ -1,4 +1,4 @@
-use Rattle.std.proofs.Common.{◌≡◌, rules, sym, ap, Err, ◌∙◌}
+use Rattle.std.proofs.Common.{rules, sym, ap, Err, ◌∙◌}
 use Rattle.cfg_model.specs.declared.fault.CfgFault.TheVariants.{Twice}
 use Rattle.cfg_model.proofs.PlaceLemmas.{each_once-at, once-taken, once-free, LeadsToPlaces-next}
 use Rattle.cfg_model.proofs.accounts.places_of.Goals as goal
@@ -24,7 +24,8 @@ accounts-preserved c =
     let a = c.index-accounts-index.result in
     let free = sym (c.has_code.ensures _ c.accounts.invariant.1) ∙ c.if-has_code.false in
     let step = each_once-at _ _ a c.accounts-test.true c.index-accounts-index.is in
-    let extras = sym c.accounts.invariant.0 ∙ step ∙ once-free _ a _ free in
-    (search (rules, extras),
-    LeadsToPlaces-next _ _ _ _ a c.accounts-test.true c.index-accounts-index.is
-    c.accounts.invariant.1 free c.in_ok-put_place.ensures)
+    let extras = sym c.accounts.invariant.0 ∙ step ∙ once-free _ a _ free in (
+      search (rules, extras),
+      LeadsToPlaces-next _ _ _ _ a c.accounts-test.true c.index-accounts-index.is
+          c.accounts.invariant.1 free c.in_ok-put_place.ensures,
+    )
