@@ -25,16 +25,6 @@ use Rattle.cfg_model.proofs.Steps.{bind-Ok, same_Ok, unless-Ok}
 use Rattle.cfg_model.proofs.ListLemmas.{at_most-Ok}
 use Rattle.cfg_model.proofs.Walks.{none-ascend}
 
--- a parent that is not the account leads to it where its own parent does
-pub leads_to-next : (n counter : ℕ) (accounts : List Account) (code parent : List ℕ)
-    → counter < n → bytes_eq parent code ≡ false
-    → leads_to (n - counter) accounts code (Some parent)
-    ≡ leads_to (n - (counter + 1)) accounts code (parent_of accounts parent)
-unfolding leads_to
-leads_to-next n counter accounts code parent more other =
-    let left : n - counter ≡ suc (n - (counter + 1)) = omega (arith, more) in
-    rw left (rw other refl)
-
 -- an account that enters a map by its code takes the same place among the accounts
 pub put_account-entry : (a : Account) (es : List Keyed) → AreKeyed es
     → values_of (insert_entry (slice_cmp nat_cmp) es a.code a)
@@ -234,7 +224,7 @@ put_all-has code sorted (a ∷ accounts) h =
     (ap (λ t. has_code code sorted || t) (sym (has_code-cons code a accounts)) ∙ h))
 
 -- where all accounts pass a check, what it says holds of each
-each_checked-all : (check : Account → Result (Unit {0}) CfgFault) (P : Account → Type 0)
+pub each_checked-all : (check : Account → Result (Unit {0}) CfgFault) (P : Account → Type 0)
     → ((a : Account) (u : Unit {0}) → check a ≡ Ok u → P a)
     → (accounts : List Account) (u : Unit {0}) → each_checked check accounts ≡ Ok u → AllByRecursion P accounts
 unfolding each_checked
@@ -244,10 +234,10 @@ each_checked-all check P each (a ∷ accounts) u e =
     (each a v first, each_checked-all check P each accounts u more)
 
 -- the parent of an account is one of these accounts
-HasParentAmong : List Account → Account → Type 0
+unfoldable pub HasParentAmong : List Account → Account → Type 0
 HasParentAmong accounts a = IfSome a.parent (λ p. is_some (account_at p accounts) ≡ true)
 
-parent-among : (accounts : List Account) (a : Account) (u : Unit {0})
+pub parent-among : (accounts : List Account) (a : Account) (u : Unit {0})
     → has_known_parent accounts a ≡ Ok u → HasParentAmong accounts a
 unfolding HasParentAmong parent_known
 parent-among accounts a u e = at a.parent e

@@ -1,5 +1,5 @@
 //! The chart of accounts of a ledger: its list of tables, and what has to hold of all of them.
-ghost use Rattle.std.specs.Prelude.{◌≡◌, codes, List, ℕ, [], length, map, option_map, IfOk, Some as There, if◌then◌else◌};
+ghost use Rattle.std.specs.Prelude.{◌≡◌, codes, List, ℕ, [], length, map, option_map, option_and_then, slice_get, IfOk, Ok as Accepted, Some as There, if◌then◌else◌};
 ghost use Rattle.cfg_model.specs.declared.account.Account.{Account};
 ghost use Rattle.std.specs.Str.{bytes_eq};
 ghost use Rattle.std.specs.List.{list_any};
@@ -10,11 +10,12 @@ ghost use Rattle.cfg_model.specs.Places.{account_at as at_code};
 ghost use Rattle.cfg_model.specs.Words.{is_one_of, key_path};
 ghost use Rattle.cfg_model.specs.Walk.{of_shape, list_of, each_item};
 ghost use Rattle.cfg_model.specs.Accounts.{read_accounts, account_of, each_checked, each_once};
-ghost use Rattle.cfg_model.specs.Accounts.{parent_known, not_circular, leads_to as leads_to_code, parent_of as parent_of_code};
+ghost use Rattle.cfg_model.specs.Accounts.{parent_known, not_circular};
 ghost use Rattle.cfg_model.specs.Accounts.{agrees_in_off as agrees, by_code as by_code_of};
 ghost use Rattle.cfg_model.specs.Accounts.{few_extras as few_extras_at, has_known_parent, has_parents_off};
 ghost use Rattle.cfg_model.specs.Accounts.{put_account};
 ghost use Rattle.cfg_model.specs.AccountMaps.{AreKeyed, values_of, place_at, LeadsToPlaces};
+ghost use Rattle.cfg_model.specs.AccountMaps.{parent_place, has_this_code, comes_to};
 
 use crate::element::distinct;
 use crate::walk::{Entry, twice, unknown};
@@ -187,43 +188,83 @@ fn none_circular(
     accounts: &[Account],
     places: &BTreeMap<Code, usize>,
 ) -> Result<(), CfgFault>
-    requires { LeadsToPlaces places.now.entries accounts.now }
+    requires places { LeadsToPlaces places.now.entries accounts.now }
+    requires known { each_checked (has_known_parent accounts.now) accounts.now ≡ Accepted tt }
     ensures { Gives Memory result (each_checked (not_circular accounts.now) accounts.now) }
 {
-    'accounts: for account in accounts {
-        if leads_back(accounts, places, account) {
+    let parents = parents_of(alloc, accounts, places)?;
+    let parents = parents.as_slice();
+    'accounts: for (index, account) in accounts.iter().enumerate() {
+        if leads_back(accounts, parents, account, parent_at(parents, index)) {
             return Err(twice(alloc, account.code.as_str()));
         }
     }
     Ok(())
 }
 
-/// Whether the parents of an account lead back to it.
-#[tactic(auto, unfolding(crate::specs::Accounts::leads_to))]
-fn leads_back(accounts: &[Account], places: &BTreeMap<Code, usize>, account: &Account) -> bool
+/// The place of each account's parent.
+fn parents_of(
+    alloc: Global,
+    accounts: &[Account],
+    places: &BTreeMap<Code, usize>,
+) -> Result<List<Option<usize>>, AllocError>
     requires { LeadsToPlaces places.now.entries accounts.now }
-    ensures { let steps = length accounts.now in
-        result ≡ leads_to_code steps accounts.now account.now.code account.now.parent }
+    ensures { IfOk result (λ parents. parents ≡ map (parent_place accounts.now) accounts.now) }
 {
-    let mut next = account.parent;
+    let mut parents = List::new(alloc);
+    'accounts: for account in accounts {
+        parents.push(parent_of(places, account))?;
+    }
+    Ok(parents)
+}
+
+/// The place of the parent of an account.
+fn parent_of(places: &BTreeMap<Code, usize>, account: &Account) -> Option<usize>
+    ensures { (accounts : List Account) → LeadsToPlaces places.now.entries accounts
+        → result ≡ parent_place accounts account.now }
+{
+    let code = account.parent?;
+    place_of(places, &code)
+}
+
+/// Whether the way from a place to that of the parent comes to the account.
+#[tactic(auto, unfolding(crate::specs::AccountMaps::comes_to))]
+fn leads_back(
+    accounts: &[Account],
+    parents: &[Option<usize>],
+    account: &Account,
+    parent: Option<usize>,
+) -> bool
+    requires { parents.now ≡ map (parent_place accounts.now) accounts.now }
+    ensures { let steps = length accounts.now in
+        result ≡ comes_to steps accounts.now account.now.code parent }
+{
+    let mut next = parent;
     'steps: for _ in 0..accounts.len() {
-        let Some(parent) = next else {
+        let Some(place) = next else {
             return false;
         };
-        if parent == account.code {
+        if has_code_at(accounts, place, &account.code) {
             return true;
         }
-        next = parent_of(accounts, places, &parent);
+        next = parent_at(parents, place);
     }
     false
 }
 
-/// The parent of the account of a code.
-fn parent_of(accounts: &[Account], places: &BTreeMap<Code, usize>, code: &Code) -> Option<Code>
-    requires { LeadsToPlaces places.now.entries accounts.now }
-    ensures { result ≡ parent_of_code accounts.now code.now }
+fn has_code_at(accounts: &[Account], place: usize, code: &Code) -> bool
+    ensures { result ≡ has_this_code code.now (slice_get accounts.now place) }
 {
-    account_at(accounts, places, code)?.parent
+    match accounts.get(place) {
+        Some(account) => account.code == *code,
+        None => false,
+    }
+}
+
+fn parent_at(parents: &[Option<usize>], place: usize) -> Option<usize>
+    ensures { result ≡ option_and_then (λ parent. parent) (slice_get parents.now place) }
+{
+    *parents.get(place)?
 }
 
 /// Refuses an account that is off-balance where its parent is not, or the other way round.
