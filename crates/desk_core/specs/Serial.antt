@@ -54,7 +54,7 @@ numbered line date (g ∷ gs) =
 -- refused
 unfoldable pub make_set : ℕ → List Given → Result (List Rec) Refusal
 make_set date given = do
-  _ ← unless (nat_le (length (filter is_made given)) most_records) (Rule TooManyRecords)
+  _ ← unless (nat_le (length (filter is_made given)) most_records) (Rule TooManyRecords None)
   Ok (numbered 1 date (filter is_made given))
 
 -- the document of a plan with the records that are made for it

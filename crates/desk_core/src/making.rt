@@ -37,7 +37,10 @@ fn make_set(alloc: Global, date: Date, given: List<Given>) -> Tried<List<Rec>>
     ensures { IfOk result (λ tried. tried ≡ make_set_of date given) }
 {
     if made_count(given.as_slice()) > MOST_RECORDS {
-        return Ok(Err(Refusal::Rule(PostFault::TooManyRecords)));
+        return Ok(Err(Refusal::Rule {
+            fault: PostFault::TooManyRecords,
+            scale: None,
+        }));
     }
     let records = numbered(alloc, date, given)?;
     Ok(Ok(records))

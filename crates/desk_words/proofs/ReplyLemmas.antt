@@ -1,5 +1,5 @@
 -- Sums have their texts, and a reply has no float, so that its text is known.
-use Rattle.std.proofs.Common.{◌≡◌, ℕ, ℤ, false, List, [], ◌∷◌, ◌++◌, map, ◌⊎◌, ⊎_elim, refl, sym, ap, ◌∙◌, append-nil}
+use Rattle.std.proofs.Common.{◌≡◌, ℕ, Option, ℤ, false, List, [], ◌∷◌, ◌++◌, map, ◌⊎◌, ⊎_elim, refl, sym, ap, ◌∙◌, append-nil}
 use Rattle.serde_json.specs.Data.{Data, string}
 use Rattle.serde_json.specs.View.{items_of}
 use Rattle.serde_json.specs.Written.{has_float, items_have_float}
@@ -12,7 +12,9 @@ use Rattle.desk_words.specs.declared.reply.Answer.{Answer}
 use Rattle.desk_words.specs.declared.reply.Answer.TheVariants.{Document, Balance}
 use Rattle.desk_words.specs.declared.reply.Refusal.{Refusal}
 use Rattle.desk_words.specs.declared.reply.Refusal.TheVariants.{BadLine, UnknownClerk, BadField, Limit, Rule}
-use Rattle.desk_words.specs.ReplyTexts.{sum_texts, texts_data, row_data, rows_data, document_data, answer_data, word_fault_members, refusal_detail, refusal_data, reply_data}
+use Rattle.cfg_model.specs.declared.fault.PostFault.{PostFault}
+use Rattle.cfg_model.specs.declared.fault.PostFault.TheVariants.{Broken, Shortage, Overflow, Entry, TooManyRecords, Negative}
+use Rattle.desk_words.specs.ReplyTexts.{sum_texts, texts_data, row_data, rows_data, document_data, answer_data, word_fault_members, post_fault_members, refusal_detail, refusal_data, reply_data}
 
 -- without sums there are no texts
 sum_texts-nil : (scales : List ℕ) → sum_texts scales [] ≡ []
@@ -64,6 +66,17 @@ has_float-bad_line (UnknownMember name) = refl
 has_float-bad_line (BadMember m) = refl
 has_float-bad_line Memory = refl
 
+-- a fault of posting has none
+has_float-rule : (scale : Option ℕ) (fault : PostFault)
+    → has_float (refusal_data (Rule fault scale)) ≡ false
+unfolding refusal_data refusal_detail post_fault_members
+has_float-rule scale (Broken rule line code) = refl
+has_float-rule scale (Shortage rule line missing) = refl
+has_float-rule scale (Overflow rule line) = refl
+has_float-rule scale (Entry rule line fault) = refl
+has_float-rule scale TooManyRecords = refl
+has_float-rule scale (Negative rule line) = refl
+
 -- a refusal has none
 has_float-refusal_data : (refusal : Refusal) → has_float (refusal_data refusal) ≡ false
 unfolding refusal_data refusal_detail
@@ -71,7 +84,7 @@ has_float-refusal_data (BadLine fault) = has_float-bad_line fault
 has_float-refusal_data UnknownClerk = refl
 has_float-refusal_data (BadField field) = refl
 has_float-refusal_data (Limit which count) = refl
-has_float-refusal_data (Rule fault) = refl
+has_float-refusal_data (Rule fault scale) = has_float-rule scale fault
 
 -- a reply has none
 pub has_float-reply_data : (reply : Reply) → has_float (reply_data reply) ≡ false

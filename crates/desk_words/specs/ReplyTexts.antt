@@ -1,5 +1,5 @@
 -- The line that a reply is printed as.
-use Rattle.std.specs.Prelude.{ℕ, ℤ, Bool, List, [], ◌∷◌, map, codes}
+use Rattle.std.specs.Prelude.{ℕ, ℤ, Bool, Option, unwrap_or, List, [], ◌∷◌, map, codes}
 use Rattle.serde_json.specs.Data.{Data, boolean, number, unsigned, string, array, object, Members, no_members, member, put}
 use Rattle.serde_json.specs.View.{items_of}
 use Rattle.serde_json.specs.Written.{compact_text}
@@ -17,8 +17,10 @@ use Rattle.desk_words.specs.declared.reply.Answer.{Answer}
 use Rattle.desk_words.specs.declared.reply.Answer.TheVariants.{Document, Balance}
 use Rattle.desk_words.specs.declared.reply.Refusal.{Refusal}
 use Rattle.desk_words.specs.declared.reply.Refusal.TheVariants.{BadLine, UnknownClerk, BadField, Limit as LimitPassed, Rule}
+use Rattle.cfg_model.specs.declared.fault.PostFault.{PostFault}
+use Rattle.cfg_model.specs.declared.fault.PostFault.TheVariants.{Broken, Shortage, Overflow, Entry, TooManyRecords, Negative}
 use Rattle.desk_words.specs.Members.{member_name}
-use Rattle.desk_words.specs.ReplyWords.{state_name, field_name, limit_name, word_fault_number, post_fault_number, refusal_number, refusal_name}
+use Rattle.desk_words.specs.ReplyWords.{state_name, field_name, limit_name, word_fault_number, entry_fault_number, refusal_number, refusal_name}
 
 -- a whole number
 abbrev pub whole : ℕ → Data
@@ -78,6 +80,29 @@ unfoldable pub word_fault_members : WordFault → Members
 word_fault_members fault =
     put (codes "kind") (whole (word_fault_number fault)) (word_fault_detail fault)
 
+-- the fault of a rule at a line of the document
+abbrev pub fault_at : ℕ → ℕ → ℕ → Members
+fault_at code rule line =
+    member (codes "fault") (whole code)
+    (member (codes "line") (whole line)
+    (member (codes "rule") (whole rule) no_members))
+
+-- a quantity that is missing, with its decimals
+abbrev pub missing_text : Option ℕ → ℤ → List ℕ
+missing_text scale missing = sum_text missing (unwrap_or scale 0)
+
+-- what a fault of posting tells: its number, the rule and the line, and what else belongs to it
+unfoldable pub post_fault_members : Option ℕ → PostFault → Members
+post_fault_members scale (Broken rule line code) =
+    put (codes "text") (string code) (fault_at 1 rule line)
+post_fault_members scale (Shortage rule line missing) =
+    put (codes "missing") (string (missing_text scale missing)) (fault_at 2 rule line)
+post_fault_members scale (Overflow rule line) = fault_at 3 rule line
+post_fault_members scale (Entry rule line fault) =
+    put (codes "entry") (whole (entry_fault_number fault)) (fault_at 4 rule line)
+post_fault_members scale TooManyRecords = member (codes "fault") (whole 5) no_members
+post_fault_members scale (Negative rule line) = fault_at 6 rule line
+
 -- what a refusal tells besides its number and its name
 unfoldable pub refusal_detail : Refusal → Members
 refusal_detail (BadLine fault) = word_fault_members fault
@@ -86,7 +111,7 @@ refusal_detail (BadField field) = member (codes "field") (string (field_name fie
 refusal_detail (LimitPassed which count) =
     member (codes "number") (whole count)
     (member (codes "which") (string (limit_name which)) no_members)
-refusal_detail (Rule fault) = member (codes "fault") (whole (post_fault_number fault)) no_members
+refusal_detail (Rule fault scale) = post_fault_members scale fault
 
 -- why a request is refused: its number, its name, and what it tells besides
 unfoldable pub refusal_data : Refusal → Data

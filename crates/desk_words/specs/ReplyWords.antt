@@ -11,7 +11,9 @@ use Rattle.desk_words.specs.declared.reply.Field.TheVariants.{Space, Register, V
 use Rattle.desk_words.specs.declared.reply.Limit.{Limit}
 use Rattle.desk_words.specs.declared.reply.Limit.TheVariants.{Numbers}
 use Rattle.cfg_model.specs.declared.fault.PostFault.{PostFault}
-use Rattle.cfg_model.specs.declared.fault.PostFault.TheVariants.{TooManyRecords}
+use Rattle.cfg_model.specs.declared.fault.PostFault.TheVariants.{Broken, Shortage, Overflow, Entry, TooManyRecords, Negative}
+use Rattle.cfg_model.specs.declared.fault.EntryFault.{EntryFault}
+use Rattle.cfg_model.specs.declared.fault.EntryFault.TheVariants.{UnknownAccount, GroupAccount, ExtraCount, Sides}
 
 -- the word of a document's state
 abbrev pub state_name : DocState → List ℕ
@@ -44,7 +46,19 @@ word_fault_number Memory = 0
 
 -- the number of a fault of posting
 abbrev pub post_fault_number : PostFault → ℕ
+post_fault_number (Broken rule line code) = 1
+post_fault_number (Shortage rule line missing) = 2
+post_fault_number (Overflow rule line) = 3
+post_fault_number (Entry rule line fault) = 4
 post_fault_number TooManyRecords = 5
+post_fault_number (Negative rule line) = 6
+
+-- the number of a fault of an entry
+abbrev pub entry_fault_number : EntryFault → ℕ
+entry_fault_number UnknownAccount = 1
+entry_fault_number GroupAccount = 2
+entry_fault_number ExtraCount = 3
+entry_fault_number Sides = 4
 
 -- the number of a refusal
 abbrev pub refusal_number : Refusal → ℕ
@@ -52,7 +66,7 @@ refusal_number (BadLine fault) = 1
 refusal_number UnknownClerk = 2
 refusal_number (BadField field) = 11
 refusal_number (LimitPassed which count) = 14
-refusal_number (Rule fault) = 15
+refusal_number (Rule fault scale) = 15
 
 -- the word of a refusal
 abbrev pub refusal_name : Refusal → List ℕ
@@ -60,4 +74,4 @@ refusal_name (BadLine fault) = codes "BadLine"
 refusal_name UnknownClerk = codes "UnknownClerk"
 refusal_name (BadField field) = codes "BadField"
 refusal_name (LimitPassed which count) = codes "Limit"
-refusal_name (Rule fault) = codes "Rule"
+refusal_name (Rule fault scale) = codes "Rule"

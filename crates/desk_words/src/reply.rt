@@ -1,11 +1,11 @@
 //! What the desk answers to a request.
 ghost use Rattle.std.specs.Prelude.{◌≡◌, OnOk, OnErr, ◌++◌};
 ghost use Rattle.desk_words.specs.ReplyTexts.{reply_text};
-ghost use Rattle.desk_words.specs.ReplyWords.{field_name, limit_name, post_fault_number, refusal_number, refusal_name};
+ghost use Rattle.desk_words.specs.ReplyWords.{field_name, limit_name, post_fault_number, entry_fault_number, refusal_number, refusal_name};
 
 use crate::fault::WordFault;
 use crate::reply_values::{print_value, reply_value};
-use cfg_model::PostFault;
+use cfg_model::{EntryFault, PostFault};
 use reg_base::{DocState, List, Memory, Scale, SumRow};
 use std::alloc::Global;
 
@@ -42,11 +42,20 @@ pub enum Refusal {
     /// The configuration has no such clerk.
     UnknownClerk,
     /// A field that the configuration does not take.
-    BadField { field: Field },
+    BadField {
+        field: Field,
+    },
     /// A count would pass its limit.
-    Limit { which: Limit, number: u64 },
+    Limit {
+        which: Limit,
+        number: u64,
+    },
     /// The document's records can't be made.
-    Rule(PostFault),
+    Rule {
+        fault: PostFault,
+        /// The decimals of the quantity that is missing, where one is.
+        scale: Option<Scale>,
+    },
 }
 
 /// A field of a request, as a refusal names it.
@@ -88,7 +97,7 @@ impl Refusal {
             Refusal::UnknownClerk => 2,
             Refusal::BadField { .. } => 11,
             Refusal::Limit { .. } => 14,
-            Refusal::Rule(_) => 15,
+            Refusal::Rule { .. } => 15,
         }
     }
 
@@ -101,7 +110,7 @@ impl Refusal {
             Refusal::UnknownClerk => "UnknownClerk",
             Refusal::BadField { .. } => "BadField",
             Refusal::Limit { .. } => "Limit",
-            Refusal::Rule(_) => "Rule",
+            Refusal::Rule { .. } => "Rule",
         }
     }
 }
@@ -137,6 +146,23 @@ pub fn post_fault_number(fault: PostFault) -> u64
     ensures { result ≡ post_fault_number fault }
 {
     match fault {
+        PostFault::Broken { .. } => 1,
+        PostFault::Shortage { .. } => 2,
+        PostFault::Overflow { .. } => 3,
+        PostFault::Entry { .. } => 4,
         PostFault::TooManyRecords => 5,
+        PostFault::Negative { .. } => 6,
+    }
+}
+
+/// The number of a fault of an entry.
+pub fn entry_fault_number(fault: EntryFault) -> u64
+    ensures { result ≡ entry_fault_number fault }
+{
+    match fault {
+        EntryFault::UnknownAccount => 1,
+        EntryFault::GroupAccount => 2,
+        EntryFault::ExtraCount => 3,
+        EntryFault::Sides => 4,
     }
 }

@@ -3,13 +3,15 @@ ghost use Rattle.std.specs.Prelude.{◌≡◌, ◌++◌, false, map, codes, stri
 ghost use Rattle.serde_json.specs.Data.{string, object, no_members, member};
 ghost use Rattle.serde_json.specs.View.{view, members_view};
 ghost use Rattle.serde_json.specs.Written.{compact_text, has_float};
-ghost use Rattle.desk_words.specs.ReplyTexts.{whole, value_text as value_text_of, sum_texts as sum_texts_of, texts_data, row_data, rows_data, document_data, answer_data, word_fault_detail, word_fault_members, refusal_detail, refusal_data, reply_data};
-ghost use Rattle.desk_words.specs.ReplyWords.{state_name as state_name_of};
+ghost use Rattle.desk_words.specs.ReplyTexts.{whole, value_text as value_text_of, sum_texts as sum_texts_of, texts_data, row_data, rows_data, document_data, answer_data, word_fault_detail, word_fault_members, refusal_detail, refusal_data, reply_data, fault_at, missing_text as missing_text_of, post_fault_members};
+ghost use Rattle.desk_words.specs.ReplyWords.{state_name as state_name_of, entry_fault_number as entry_fault_number_of};
+ghost use Rattle.serde_json.specs.Data.{put as member_put};
 
 use crate::fault::WordFault;
 use crate::parsed::Object;
-use crate::reply::{Answer, Refusal, Reply, post_fault_number};
-use reg_base::{DocState, Memory, Scale, SumRow, Value, sum_string};
+use crate::reply::{Answer, Refusal, Reply, entry_fault_number};
+use cfg_model::{EntryFault, PostFault};
+use reg_base::{Code, DocState, Memory, Scale, SumRow, Value, sum_string};
 use serde_json::{Value as Json, json, put};
 use std::alloc::Global;
 
@@ -148,8 +150,90 @@ fn refusal_detail(alloc: Global, refusal: &Refusal) -> Result<Object, Memory>
         Refusal::UnknownClerk => Ok(Object::new(alloc)),
         Refusal::BadField { field } => text_member(alloc, "field", field.name()),
         Refusal::Limit { which, number } => limit_members(alloc, which.name(), *number),
-        Refusal::Rule(fault) => whole_member(alloc, "fault", post_fault_number(*fault)),
+        Refusal::Rule { fault, scale } => post_fault_members(alloc, *scale, fault),
     }
+}
+
+#[tactic(auto, unfolding(crate::specs::ReplyTexts::post_fault_members))]
+fn post_fault_members(
+    alloc: Global,
+    scale: Option<Scale>,
+    fault: &PostFault,
+) -> Result<Object, Memory>
+    ensures { IfOk result (λ m. members_view m.entries ≡ post_fault_members scale fault.now) }
+{
+    match *fault {
+        PostFault::Broken { rule, line, code } => broken_members(alloc, rule, line, &code),
+        PostFault::Shortage {
+            rule,
+            line,
+            missing,
+        } => shortage_members(alloc, rule, line, scale, missing),
+        PostFault::Overflow { rule, line } => fault_at(alloc, 3, rule, line),
+        PostFault::Entry { rule, line, fault } => entry_members(alloc, rule, line, fault),
+        PostFault::TooManyRecords => whole_member(alloc, "fault", 5),
+        PostFault::Negative { rule, line } => fault_at(alloc, 6, rule, line),
+    }
+}
+
+/// The fault of a rule at a line of the document.
+fn fault_at(alloc: Global, number: u64, rule: u32, line: u32) -> Result<Object, Memory>
+    ensures { IfOk result (λ m. members_view m.entries ≡ fault_at number rule line) }
+{
+    let mut members = whole_member(alloc, "fault", number)?;
+    put(&mut members, alloc, "line", Json::from(line))?;
+    put(&mut members, alloc, "rule", Json::from(rule))?;
+    Ok(members)
+}
+
+fn broken_members(alloc: Global, rule: u32, line: u32, code: &Code) -> Result<Object, Memory>
+    ensures { IfOk result (λ m. members_view m.entries
+        ≡ member_put (codes "text") (string code.now) (fault_at 1 rule line)) }
+{
+    let mut members = fault_at(alloc, 1, rule, line)?;
+    put(&mut members, alloc, "text", text(alloc, code.as_str())?)?;
+    Ok(members)
+}
+
+fn shortage_members(
+    alloc: Global,
+    rule: u32,
+    line: u32,
+    scale: Option<Scale>,
+    missing: i64,
+) -> Result<Object, Memory>
+    ensures { IfOk result (λ m. members_view m.entries ≡ member_put (codes "missing")
+        (string (missing_text_of scale missing)) (fault_at 2 rule line)) }
+{
+    let mut members = fault_at(alloc, 2, rule, line)?;
+    let missing = Json::String(missing_text(alloc, scale, missing)?);
+    put(&mut members, alloc, "missing", missing)?;
+    Ok(members)
+}
+
+/// A quantity that is missing, with its decimals.
+fn missing_text(alloc: Global, scale: Option<Scale>, missing: i64) -> Result<String, Memory>
+    ensures { IfOk result (λ text. string_bytes text ≡ missing_text_of scale missing) }
+{
+    let decimals = match scale {
+        Some(scale) => scale.get(),
+        None => 0,
+    };
+    sum_string(alloc, i128::from(missing), decimals)
+}
+
+fn entry_members(alloc: Global, rule: u32, line: u32, fault: EntryFault) -> Result<Object, Memory>
+    ensures { IfOk result (λ m. members_view m.entries ≡ member_put (codes "entry")
+        (whole (entry_fault_number_of fault)) (fault_at 4 rule line)) }
+{
+    let mut members = fault_at(alloc, 4, rule, line)?;
+    put(
+        &mut members,
+        alloc,
+        "entry",
+        Json::from(entry_fault_number(fault)),
+    )?;
+    Ok(members)
 }
 
 fn limit_members(alloc: Global, which: &str, number: u64) -> Result<Object, Memory>

@@ -1,6 +1,6 @@
 //! Lines with the faults that a reader of the rules expects, and replies byte by byte.
 use crate::{Answer, Field, Limit, RecordText, Refusal, Reply, Request};
-use cfg_model::PostFault;
+use cfg_model::{EntryFault, PostFault};
 use reg_base::{Code, Cut, DocState, List, Mark, Scale, SumRow, Value};
 use reg_io::Line;
 use std::alloc::Global;
@@ -322,9 +322,15 @@ fn accepted_replies_are_printed(rt: HostRuntime) -> Result<(), Fail> {
     Ok(())
 }
 
+/// The refusal of a fault of posting that tells no quantity.
+fn rule(fault: PostFault) -> Refusal {
+    Refusal::Rule { fault, scale: None }
+}
+
 #[test]
 fn refusals_are_printed(rt: HostRuntime) -> Result<(), Fail> {
     let alloc = rt.alloc();
+    let nail = Code::parse("nail").ok_or("no code")?;
     for (refusal, wanted) in [
         (
             Refusal::UnknownClerk,
@@ -344,8 +350,43 @@ fn refusals_are_printed(rt: HostRuntime) -> Result<(), Fail> {
             "\"code\":14,\"name\":\"Limit\",\"number\":4294967295,\"which\":\"numbers\"",
         ),
         (
-            Refusal::Rule(PostFault::TooManyRecords),
+            rule(PostFault::TooManyRecords),
             "\"code\":15,\"fault\":5,\"name\":\"Rule\"",
+        ),
+        (
+            rule(PostFault::Broken {
+                rule: 2,
+                line: 0,
+                code: nail,
+            }),
+            "\"code\":15,\"fault\":1,\"line\":0,\"name\":\"Rule\",\"rule\":2,\"text\":\"nail\"",
+        ),
+        (
+            Refusal::Rule {
+                fault: PostFault::Shortage {
+                    rule: 1,
+                    line: 2,
+                    missing: 1,
+                },
+                scale: Scale::new(3),
+            },
+            "\"code\":15,\"fault\":2,\"line\":2,\"missing\":\"0.001\",\"name\":\"Rule\",\"rule\":1",
+        ),
+        (
+            rule(PostFault::Overflow { rule: 3, line: 1 }),
+            "\"code\":15,\"fault\":3,\"line\":1,\"name\":\"Rule\",\"rule\":3",
+        ),
+        (
+            rule(PostFault::Entry {
+                rule: 4,
+                line: 1,
+                fault: EntryFault::ExtraCount,
+            }),
+            "\"code\":15,\"entry\":3,\"fault\":4,\"line\":1,\"name\":\"Rule\",\"rule\":4",
+        ),
+        (
+            rule(PostFault::Negative { rule: 1, line: 1 }),
+            "\"code\":15,\"fault\":6,\"line\":1,\"name\":\"Rule\",\"rule\":1",
         ),
     ] {
         let wanted = format!(in alloc; "{{\"refused\":{{{wanted}}}}}")?;

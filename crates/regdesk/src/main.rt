@@ -25,6 +25,8 @@ mod line_table;
 mod program;
 mod run;
 #[cfg(test)]
+mod spaces_table;
+#[cfg(test)]
 mod tests;
 
 pub use desk_main::{Finish, MOST_CONFIG_BYTES, desk_main};
