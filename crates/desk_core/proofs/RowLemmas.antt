@@ -1,7 +1,8 @@
 -- The rows of records, one record more.
-use Rattle.std.proofs.Common.{◌≡◌, ℕ, zero, suc, ◌+◌, ◌<◌, ◌≤◌, ◌*◌, ◌^◌, ℤ, pos, ◌+ℤ◌, Bool, true, false, ◌||◌, ◌&&◌, cond, Option, None, Some, List, [], ◌∷◌, ◌++◌, map, length, refl, ap, ◌∙◌, sym, subst, arith, take, get_or, length-append, append_assoc}
-use Rattle.std.specs.Prelude.{slice_get, unwrap_or}
-use Rattle.std.specs.Map.{lookup}
+use Rattle.std.proofs.Common.{◌≡◌, ℕ, zero, suc, ◌+◌, ◌<◌, ◌≤◌, ◌*◌, ◌^◌, ℤ, pos, ◌+ℤ◌, Bool, true, false, ◌||◌, ◌&&◌, cond, Option, None, Some, List, [], ◌∷◌, ◌++◌, map, length, refl, ap, ◌∙◌, sym, subst, arith, take, drop, get_or, length-append, append_assoc}
+use Rattle.std.specs.Prelude.{slice_get, slice_set, unwrap_or}
+use Rattle.std.specs.Map.{lookup, set_value}
+use Rattle.std.proofs.lemmas.List.FromFn.{map-range_with_len_more, length-range_with_len, length-map-range_with_len}
 use Rattle.std.specs.Cmp.Lexicographic.{slice_cmp}
 use Rattle.std.specs.List.{All, list_any, filter, flat_map, range_with_len, AllByRecursion}
 use Rattle.std.specs.Ordering.{match_ordering, is_eq, ordering_reverse}
@@ -298,3 +299,169 @@ flat-short register (d ∷ ds) h =
 pub documents-few : (p : Booked → Bool) (register : ℕ) (ds : List Document) (i : ℕ) → All HasShortSets ds → length ds < 2 ^ 32 → length (filter p (flat_map (booked_by register) (take i ds))) < 2 ^ 45
 documents-few p register ds i h few =
     omega (arith, length-filter p (flat_map (booked_by register) (take i ds)), count_by-le-length p (flat_map (booked_by register) (take i ds)), flat-short register (take i ds) (All-take HasShortSets i ds h), length-take i ds)
+
+-- ---- a row that stands, changed in its place
+
+-- the sums of the first row of a group, changed
+abbrev set_row : List Value → List ℤ → List SumRow → List SumRow
+set_row k v [] = []
+set_row k v (r ∷ rs) = cond (is_eq (values_cmp k r.group)) (record { group = r.group; sums = v } ∷ rs) (r ∷ set_row k v rs)
+
+-- a map's entries with a value changed, seen as rows
+rows_of-set_value : {A B : Type 0} (k : List Value) (test : Vec Value A → Bool)
+    → ((x : Vec Value A) → test x ≡ is_eq (values_cmp k x.items))
+    → (es : List (Vec Value A × Vec ℤ B)) (w : Vec ℤ B)
+    → rows_of (set_value test es w) ≡ set_row k w.items (rows_of es)
+rows_of-set_value k test same [] w = refl
+rows_of-set_value {A} {B} k test same (e ∷ es) w =
+    ap (λ b. rows_of (cond b ((e.0, w) ∷ es) (e ∷ set_value test es w))) (same e.0)
+    ∙ at (rows_of-set_value k test same es w) (is_eq (values_cmp k e.0.items))
+  where
+    at : rows_of (set_value test es w) ≡ set_row k w.items (rows_of es) → (b : Bool)
+        → rows_of (cond b ((e.0, w) ∷ es) (e ∷ set_value test es w))
+        ≡ cond b (record { group = e.0.items; sums = w.items } ∷ rows_of es)
+        (record { group = e.0.items; sums = e.1.items } ∷ set_row k w.items (rows_of es))
+    at ih true = refl
+    at ih false = ap (λ t. record { group = e.0.items; sums = e.1.items } ∷ t) ih
+
+-- the groups of rows
+abbrev groups_in : List SumRow → List (List Value)
+groups_in rows = map (λ (r : SumRow). r.group) rows
+
+-- a group that a look-up finds is among the groups
+found-has : {A B : Type 0} (k : List Value) (test : Vec Value A → Bool)
+    → ((x : Vec Value A) → test x ≡ is_eq (values_cmp k x.items))
+    → (es : List (Vec Value A × Vec ℤ B)) (v : Vec ℤ B) → lookup test es ≡ Some v
+    → has_group k (groups_in (rows_of es)) ≡ true
+found-has k test same [] v e = absurd (cc)
+found-has {A} {B} k test same (x ∷ es) v e =
+    at (found-has k test same es v) (is_eq (values_cmp k x.0.items)) refl
+    (ap (λ b. cond b (Some x.1) (lookup test es)) (sym (same x.0)) ∙ e)
+  where
+    at : (lookup test es ≡ Some v → has_group k (groups_in (rows_of es)) ≡ true) → (b : Bool)
+        → is_eq (values_cmp k x.0.items) ≡ b → cond b (Some x.1) (lookup test es) ≡ Some v
+        → (is_eq (values_cmp x.0.items k) || has_group k (groups_in (rows_of es))) ≡ true
+    at ih true p e = ap (λ t. t || has_group k (groups_in (rows_of es))) (sym (eq-flip k x.0.items) ∙ p)
+    at ih false p e = ap (λ t. t || has_group k (groups_in (rows_of es))) (sym (eq-flip k x.0.items) ∙ p) ∙ ih e
+
+groups_in-rows : (f : List Value → List ℤ) (qs : List (List Value)) → groups_in (map (row_by f) qs) ≡ qs
+groups_in-rows f [] = refl
+groups_in-rows f (q ∷ qs) = ap (λ t. q ∷ t) (groups_in-rows f qs)
+
+below-absent : (k : List Value) (qs : List (List Value)) → AllByRecursion (λ y. values_cmp k y ≡ Less) qs
+    → has_group k qs ≡ false
+below-absent k [] all = refl
+below-absent k (q ∷ qs) all =
+    ap (λ t. t || has_group k qs) (sym (eq-flip k q) ∙ ap is_eq all.0) ∙ below-absent k qs all.1
+
+-- a row that stands is changed where it would be put
+set_row-put_row : (k : List Value) (v : List ℤ) (f : List Value → List ℤ) (qs : List (List Value))
+    → AreRising qs → has_group k qs ≡ true
+    → set_row k v (map (row_by f) qs) ≡ put_row (record { group = k; sums = v }) (map (row_by f) qs)
+set_row-put_row k v f [] h has = absurd (cc)
+set_row-put_row k v f (x ∷ xs) h has = at (set_row-put_row k v f xs h.1) (values_cmp k x) refl
+  where
+    at : (has_group k xs ≡ true → set_row k v (map (row_by f) xs) ≡ put_row (record { group = k; sums = v }) (map (row_by f) xs))
+        → (r : Ordering) → values_cmp k x ≡ r
+        → cond (is_eq r) (record { group = x; sums = v } ∷ map (row_by f) xs) (row_by f x ∷ set_row k v (map (row_by f) xs))
+        ≡ match_ordering r (record { group = k; sums = v } ∷ row_by f x ∷ map (row_by f) xs)
+        (record { group = x; sums = v } ∷ map (row_by f) xs)
+        (row_by f x ∷ put_row (record { group = k; sums = v }) (map (row_by f) xs))
+    at ih Less p = absurd (let none = below-absent k (x ∷ xs) (p, all-below k x xs p h.0) in cc)
+    at ih Equal p = refl
+    at ih Greater p =
+        ap (λ t. row_by f x ∷ t)
+        (ih (ap (λ t. t || has_group k xs) (sym (ap is_eq p) ∙ eq-flip k x) ∙ has))
+
+-- a row of added records that is found has as many sums as there are resources
+pub found-length : {A B : Type 0} (resources : ℕ) (bs : List Booked) (k : List Value) (test : Vec Value A → Bool)
+    → ((x : Vec Value A) → test x ≡ is_eq (values_cmp k x.items))
+    → (es : List (Vec Value A × Vec ℤ B)) (v : Vec ℤ B) → lookup test es ≡ Some v
+    → AddsUp resources bs (rows_of es) → length v.items ≡ resources
+found-length resources bs k test same es v e h =
+    let has : has_group k (groups_of None bs) ≡ true =
+    sym (ap (has_group k) (ap groups_in h.same ∙ groups_in-rows (totals resources bs) (groups_of None bs))) ∙ found-has k test same es v e in
+    let sums : v.items ≡ sums_at k (rows_of es) = ap sums_of (sym e) ∙ sums_of-lookup k test same es in
+    ap length (sums ∙ ap (sums_at k) h.same ∙ sums_at-groups (totals resources bs) k (groups_of None bs)
+    ∙ ap (λ b. cond b (totals resources bs k) []) has)
+    ∙ length-map (range_with_len 0 resources) (total None k bs)
+    ∙ length-range_with_len 0 resources
+
+-- one record more, in a row that stands
+pub AddsUp-raise : {A B : Type 0} (resources : ℕ) (bs : List Booked) (b : Booked) (test : Vec Value A → Bool)
+    → ((x : Vec Value A) → test x ≡ is_eq (values_cmp b.rec.values x.items))
+    → (es new : List (Vec Value A × Vec ℤ B)) (v w : Vec ℤ B) → lookup test es ≡ Some v
+    → AddsUp resources bs (rows_of es)
+    → w.items ≡ map (λ j. amount_at j b.rec +ℤ sum_at v.items j) (range_with_len 0 (length v.items))
+    → ((j : ℕ) → j < length v.items → IsWithin 1 (amount_at j b.rec))
+    → new ≡ set_value test es w → AddsUp resources (bs ++ b ∷ []) (rows_of new)
+AddsUp-raise resources bs b test same es new v w e h value small n =
+    let long = found-length resources bs b.rec.values test same es v e h in
+    let sums : v.items ≡ sums_at b.rec.values (rows_of es) = ap sums_of (sym e) ∙ sums_of-lookup b.rec.values test same es in
+    let has : has_group b.rec.values (groups_of None bs) ≡ true =
+    sym (ap (has_group b.rec.values) (ap groups_in h.same ∙ groups_in-rows (totals resources bs) (groups_of None bs))) ∙ found-has b.rec.values test same es v e in
+    AddsUp-push resources bs b (rows_of es) (rows_of new) v.items w.items h sums
+    (value ∙ ap (λ n. map (λ j. amount_at j b.rec +ℤ sum_at v.items j) (range_with_len 0 n)) long)
+    (λ j l. small j (omega (arith, long)))
+    (ap rows_of n ∙ rows_of-set_value b.rec.values test same es w
+    ∙ ap (set_row b.rec.values w.items) h.same
+    ∙ set_row-put_row b.rec.values w.items (totals resources bs) (groups_of None bs) (AreRising-groups_of bs) has
+    ∙ ap (put_row (record { group = b.rec.values; sums = w.items })) (sym h.same))
+
+-- ---- sums raised in their place
+
+set_mid : (front : List ℤ) (x v : ℤ) (rest : List ℤ) → slice_set (front ++ x ∷ rest) (length front) v ≡ front ++ v ∷ rest
+set_mid [] x v rest = refl
+set_mid (y ∷ front) x v rest = ap (λ t. y ∷ t) (set_mid front x v rest)
+
+get_mid : (front : List ℤ) (x : ℤ) (rest : List ℤ) → slice_get (front ++ x ∷ rest) (length front) ≡ Some x
+get_mid [] x rest = refl
+get_mid (y ∷ front) x rest = get_mid front x rest
+
+drop_split : (xs : List ℤ) (j : ℕ) → j < length xs → (x : ℤ) × (drop j xs ≡ x ∷ drop (suc j) xs) × (slice_get xs j ≡ Some x)
+drop_split [] j h = absurd (omega arith)
+drop_split (x ∷ xs) zero h = (x, refl, refl)
+drop_split (x ∷ xs) (suc j) h = drop_split xs j (omega arith)
+
+module _ (F : ℕ → ℤ) (old sums : List ℤ) (j : ℕ) (below : j < length old) (so_far : sums ≡ map F (range_with_len 0 j) ++ drop j old) where
+  front-long : j ≡ length (map F (range_with_len 0 j))
+  front-long = sym (length-map (range_with_len 0 j) F ∙ length-range_with_len 0 j)
+
+  -- the sum in its turn is the old one
+  pub raise-at : sum_at sums j ≡ sum_at old j
+  raise-at =
+      let (x, split, found) = drop_split old j below in
+      ap (λ s. sum_at s j) (so_far ∙ ap (λ t. map F (range_with_len 0 j) ++ t) split)
+      ∙ ap (λ i. unwrap_or (slice_get (map F (range_with_len 0 j) ++ x ∷ drop (suc j) old) i) (pos 0)) front-long
+      ∙ ap (λ o. unwrap_or o (pos 0)) (get_mid (map F (range_with_len 0 j)) x (drop (suc j) old) ∙ sym found)
+
+  -- one sum more is raised
+  pub raise-step : (v : ℤ) → v ≡ F j → slice_set sums j v ≡ map F (range_with_len 0 (j + 1)) ++ drop (j + 1) old
+  raise-step v e =
+      let next : suc j ≡ j + 1 = omega arith in
+      let (x, split, found) = drop_split old j below in
+      ap (λ s. slice_set s j v) (so_far ∙ ap (λ t. map F (range_with_len 0 j) ++ t) split)
+      ∙ ap (λ i. slice_set (map F (range_with_len 0 j) ++ x ∷ drop (suc j) old) i v) front-long
+      ∙ set_mid (map F (range_with_len 0 j)) x v (drop (suc j) old)
+      ∙ ap (λ t. map F (range_with_len 0 j) ++ t ∷ drop (suc j) old) e
+      ∙ sym (append_assoc (map F (range_with_len 0 j)) (F j ∷ []) (drop (suc j) old))
+      ∙ ap (λ t. t ++ drop (suc j) old) (sym (map-range_with_len_more F 0 j j (omega arith)))
+      ∙ ap (λ n. map F (range_with_len 0 (j + 1)) ++ drop n old) next
+
+-- the front of a list, of the length of the whole, is the list
+pub take-front : (xs ys : List ℤ) → length xs ≡ length ys → take (length ys) (xs ++ drop (length xs) ys) ≡ xs
+take-front [] [] e = refl
+take-front [] (y ∷ ys) e = absurd (omega (arith, e))
+take-front (x ∷ xs) [] e = absurd (omega (arith, e))
+take-front (x ∷ xs) (y ∷ ys) e = ap (λ t. x ∷ t) (take-front xs ys (omega (arith, e)))
+
+-- what was raised in a slice of the whole, with its length
+pub raised-whole : (F : List ℤ → ℕ → ℤ) (items given new : List ℤ) (len : ℕ) → given ≡ items → length given ≡ len
+    → new ≡ map (F given) (range_with_len 0 (length given))
+    → take len (new ++ drop (length new) items) ≡ map (F items) (range_with_len 0 (length items))
+raised-whole F items given new len same long value =
+    let raised : length new ≡ length items = ap length value ∙ length-map-range_with_len (F given) 0 (length given) ∙ ap length same in
+    let all : len ≡ length items = sym long ∙ ap length same in
+    ap (λ n. take n (new ++ drop (length new) items)) all
+    ∙ take-front new items raised ∙ value
+    ∙ ap (λ xs. map (F xs) (range_with_len 0 (length xs))) same

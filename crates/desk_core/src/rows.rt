@@ -102,25 +102,42 @@ fn add_record(
     ensures { (number : ℕ) → IfOk result (λ _. Adds resources
         (booked number rec.now ∷ []) sums.old.entries sums.new.entries) }
 {
-    let raised = raised_sums(
-        alloc,
-        found_sums(sums, rec.values.as_slice()),
-        rec,
-        resources,
-    )?;
+    match sums.get_mut(rec.values.as_slice()) {
+        Some(found) => {
+            raise(found.as_mut_slice(), rec);
+            Ok(())
+        }
+        None => make_row(alloc, sums, rec, resources),
+    }
+}
+
+/// Adds the amounts of a record to sums, resource by resource.
+fn raise(sums: &mut [i128], rec: &Rec)
+    requires { (j : ℕ) → j < length sums.old → IsWithin (2 ^ 46) (sum_at sums.old j) }
+    ensures value { sums.new ≡ map (λ j. amount_of j rec.now +ℤ sum_at sums.old j)
+        (range_with_len 0 (length sums.old)) }
+    ensures small { (j : ℕ) → j < length sums.old → IsWithin 1 (amount_of j rec.now) }
+{
+    for j in 0..sums.len() {
+        sums[j] = raised_sum(sums, rec, j);
+    }
+}
+
+/// Makes the row of a record's values, where there is none.
+fn make_row(
+    alloc: Global,
+    sums: &mut BTreeMap<Vec<Value>, Vec<i128>>,
+    rec: &Rec,
+    resources: usize,
+) -> Result<(), Memory>
+    requires { sums_at rec.now.values (rows_of sums.old.entries) ≡ [] }
+    ensures { (number : ℕ) → IfOk result (λ _. Adds resources
+        (booked number rec.now ∷ []) sums.old.entries sums.new.entries) }
+{
+    let raised = raised_sums(alloc, &[], rec, resources)?;
     let group = Vec::from_slice(alloc, rec.values.as_slice())?;
     sums.insert(group, raised)?;
     Ok(())
-}
-
-/// The sums of a group, and none where it has no row.
-fn found_sums<'a>(sums: &'a BTreeMap<Vec<Value>, Vec<i128>>, group: &[Value]) -> &'a [i128]
-    ensures { result.now ≡ sums_at group.now (rows_of sums.now.entries) }
-{
-    match sums.get(group) {
-        Some(found) => found.as_slice(),
-        None => &[],
-    }
 }
 
 /// The sums with the amounts of a record added.

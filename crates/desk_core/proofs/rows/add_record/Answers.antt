@@ -1,18 +1,31 @@
-use Rattle.std.proofs.Common.{ap, ◌∙◌}
-use Rattle.desk_core.specs.Rows.{booked, rows_of, sums_at}
-use Rattle.desk_core.proofs.RowLemmas.{put_row, AddsUp-push, found-within, rows_of-insert_entry, derived-values_cmp}
+use Rattle.std.proofs.Common.{◌≡◌, ℕ, ◌<◌, ap, ◌∙◌, sym, subst, arith, length, take, drop, ◌++◌, is_eq, ◌+ℤ◌}
+use Rattle.std.specs.BTreeMap.{is_at}
+use Rattle.std.specs.Cmp.Lexicographic.{slice_cmp}
+use Rattle.reg_base.specs.contracts.value.ValueOrd.TheImpl.{ghosts}
+use Rattle.reg_base.specs.Records.{amount_at}
+use Rattle.desk_core.specs.Rows.{booked, rows_of, sum_at}
+use Rattle.desk_core.proofs.RowLemmas.{AddsUp-raise, sums_of, sums_of-lookup, found-length, found-within, derived-values_cmp, raised-whole}
 use Rattle.desk_core.proofs.rows.add_record.Goals as goal
 
-pub raised_sums-requires : goal.raised_sums-requires
-raised_sums-requires c =
-    found-within c.args.resources (rows_of c.args.sums.now.entries) c.args.rec.now.values c.found_sums.result.now
-    (c.found_sums.ensures ∙ ap (λ g. sums_at g (rows_of c.args.sums.now.entries)) c.as_slice.ensures) c.requires
+pub raise-requires : goal.raise-requires
+raise-requires c =
+    let same = λ (x : _). ap (λ g. is_eq (slice_cmp ghosts.cmp g x.items)) c.as_slice.ensures ∙ ap is_eq (derived-values_cmp c.args.rec.now.values x.items) in
+    let long = found-length c.args.resources c.requires.records c.args.rec.now.values _ same c.args.sums.now.entries c.in-Some.found.now (sym c.in-Some.ensures.value) c.requires.adds_up in
+    λ j l. found-within c.args.resources (rows_of c.args.sums.now.entries) c.args.rec.now.values c.as_mut_slice.result.now
+    (c.as_mut_slice.ensures.value ∙ ap sums_of c.in-Some.ensures.value ∙ sums_of-lookup c.args.rec.now.values _ same c.args.sums.now.entries)
+    c.requires j (omega (arith, l, long, ap length c.as_mut_slice.ensures.value))
 
-pub returns : goal.returns
-returns c =
-    λ number bs h. AddsUp-push c.args.resources bs (booked number c.args.rec.now) (rows_of c.args.sums.now.entries) (rows_of c.insert.new.self.entries) c.found_sums.result.now c.in_ok-raised.raised.items h
-    (c.found_sums.ensures ∙ ap (λ g. sums_at g (rows_of c.args.sums.now.entries)) c.as_slice.ensures)
-    c.in_ok-raised.ensures.value c.in_ok-raised.ensures.small
-    (ap rows_of c.in_ok-insert.ensures.entries
-    ∙ rows_of-insert_entry _ (λ x y. derived-values_cmp x.items y.items) c.args.sums.now.entries c.in_ok-group.group c.in_ok-raised.raised
-    ∙ ap (λ g. put_row (record { group = g; sums = c.in_ok-raised.raised.items }) (rows_of c.args.sums.now.entries)) (c.in_ok-group.ensures.items ∙ c.as_slice-2.ensures))
+pub make_row-requires : goal.make_row-requires
+make_row-requires c =
+    let same = λ (x : _). ap (λ g. is_eq (slice_cmp ghosts.cmp g x.items)) c.as_slice.ensures ∙ ap is_eq (derived-values_cmp c.args.rec.now.values x.items) in
+    rw c.get_mut.follows.holds-at-none
+    (sym (sums_of-lookup c.args.rec.now.values _ same c.args.sums.now.entries) ∙ ap sums_of (sym c.in-None.ensures.value))
+
+pub returns-in-Some : goal.returns-in-Some
+returns-in-Some c = λ number bs h.
+    AddsUp-raise c.args.resources bs (booked number c.args.rec.now) _
+    (λ x. ap (λ g. is_eq (slice_cmp ghosts.cmp g x.items)) c.as_slice.ensures ∙ ap is_eq (derived-values_cmp c.args.rec.now.values x.items))
+    c.args.sums.now.entries _ c.in-Some.found.now _ (sym c.in-Some.ensures.value) h
+    (raised-whole (λ xs j. amount_at j c.args.rec.now +ℤ sum_at xs j) c.in-Some.found.now.items c.as_mut_slice.result.now c.raise.new.sums _ c.as_mut_slice.ensures.value c.as_mut_slice.ensures.len c.raise.ensures.value)
+    (λ j l. c.raise.ensures.small j (omega (arith, l, ap length c.as_mut_slice.ensures.value)))
+    (c.get_mut.follows.holds _).0
