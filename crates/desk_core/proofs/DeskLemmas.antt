@@ -1,6 +1,6 @@
 -- What the desk machine does, from what a request comes to.
-use Rattle.std.proofs.Common.{◌≡◌, ℕ, ◌+◌, ◌<◌, ◌≤◌, Bool, true, false, ◌&&◌, cond, nat_lt, nat_le, Option, Some, None, IfSome, List, [], ◌∷◌, ◌++◌, map, filter, length, slice_get, unwrap_or, All, Result, Ok, Err, IfOk, refl, ap, ◌∙◌, sym, subst, arith, suc}
-use Rattle.std.proofs.lemmas.List.Elements.{All-head, All-tail, All-push, All-cons}
+use Rattle.std.proofs.Common.{◌≡◌, ℕ, ◌+◌, ◌<◌, ◌≤◌, Bool, true, false, ◌&&◌, cond, nat_le, Option, Some, None, List, [], ◌∷◌, ◌++◌, map, filter, length, slice_get, unwrap_or, All, Result, Ok, Err, refl, ap, ◌∙◌, sym, subst, arith, suc}
+use Rattle.std.proofs.lemmas.List.Elements.{All-head, All-tail, All-cons}
 use Rattle.std.specs.List.{flat_map}
 use Rattle.std.specs.Option.{ForSome}
 use Rattle.std.specs.Cmp.{nat_cmp_is}
@@ -16,7 +16,7 @@ use Rattle.reg_base.specs.declared.records.Document.{Document}
 use Rattle.reg_base.specs.declared.cut.Cut.{Cut}
 use Rattle.reg_base.specs.Cuts.{inside}
 use Rattle.reg_base.specs.Results.{◌>>=◌, unless}
-use Rattle.reg_base.specs.Records.{Booked, booked_by, records_of, matches, passes_each, point_of, chosen, within}
+use Rattle.reg_base.specs.Records.{booked_by, records_of, passes_each, point_of, chosen, within}
 use Rattle.reg_base.specs.Balances.{sum_rows}
 use Rattle.reg_base.proofs.BalanceLemmas.{balance_of-records_of}
 use Rattle.cfg_model.specs.declared.config.Config.{Config}
@@ -28,19 +28,19 @@ use Rattle.desk_words.specs.declared.request.Manual.{Manual as ManualRequest}
 use Rattle.desk_words.specs.declared.request.Balance.{Balance as BalanceRequest}
 use Rattle.desk_words.specs.declared.reply.Answer.TheVariants.{Balance as BalanceAnswer}
 use Rattle.desk_words.specs.declared.reply.Answer.{Answer}
-use Rattle.desk_words.specs.declared.reply.Reply.TheVariants.{Done, Refused}
+use Rattle.desk_words.specs.declared.reply.Reply.TheVariants.{Refused}
 use Rattle.desk_words.specs.declared.reply.Refusal.{Refusal}
 use Rattle.desk_words.specs.declared.reply.Refusal.TheVariants.{UnknownClerk, Limit}
 use Rattle.desk_words.specs.declared.reply.Limit.TheVariants.{Numbers}
 use Rattle.desk_core.specs.declared.given.Given.{Given}
 use Rattle.desk_core.specs.declared.work.Work.{Work}
 use Rattle.desk_core.specs.declared.work.Outcome.{Outcome}
-use Rattle.desk_core.specs.Invariants.{HasShortSets, AreKept}
-use Rattle.desk_core.specs.State.{Setting, State, Desk}
-use Rattle.desk_core.specs.Meanings.{Deed, changes, reads_register, meaning_of, everything, each, plan_manual, look_balance, given_of, manual_doc, Plan}
-use Rattle.desk_core.specs.Serial.{Effect, with_document, numbered, is_made, make_set, work_of, change_work, read_answer, change_effect, read_effect, deed_effect, effect_of, is_clerk, greatest_number, number_is_left}
+use Rattle.desk_core.specs.Invariants.{AreKept}
+use Rattle.desk_core.specs.State.{State, Desk}
+use Rattle.desk_core.specs.Meanings.{Deed, changes, reads_register, meaning_of, everything, each, plan_manual, look_balance, given_of, manual_doc}
+use Rattle.desk_core.specs.Serial.{with_document, numbered, is_made, make_set, work_of, change_work, read_answer, change_effect, read_effect, deed_effect, effect_of, is_clerk, greatest_number, number_is_left}
 use Rattle.desk_core.specs.Desk.{Event, event_of, step}
-use Rattle.desk_core.specs.Opened.{Opened, Steps, desk_with, IsNext, outcome_of, outcome_of_deed, outcome_of_change, outcome_of_read}
+use Rattle.desk_core.specs.Opened.{Opened, desk_with, IsNext, outcome_of, outcome_of_deed, outcome_of_change, outcome_of_read}
 
 -- ---- documents by number
 

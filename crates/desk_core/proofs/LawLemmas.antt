@@ -1,5 +1,5 @@
 -- Accepted balances are the balances of their registers.
-use Rattle.std.proofs.Common.{◌≡◌, ℕ, Bool, true, false, cond, Option, Some, None, unwrap_or, List, ◌∷◌, ◌++◌, map, length, slice_get, Result, Ok, Err, refl, ap, ◌∙◌, sym}
+use Rattle.std.proofs.Common.{◌≡◌, ℕ, Bool, true, false, cond, Option, Some, None, unwrap_or, List, map, length, slice_get, Result, Ok, Err, refl, ap, ◌∙◌, sym}
 use Rattle.reg_base.specs.declared.cut.Cut.TheVariants.{Now}
 use Rattle.reg_base.specs.declared.records.SumRow.{SumRow}
 use Rattle.reg_base.specs.Results.{◌>>=◌, unless, some_or}
@@ -12,18 +12,17 @@ use Rattle.desk_words.specs.declared.request.Request.{Request}
 use Rattle.desk_words.specs.declared.request.Request.TheVariants.{Balance}
 use Rattle.desk_words.specs.declared.request.Balance.{Balance as BalanceRequest}
 use Rattle.desk_words.specs.declared.fault.WordFault.{WordFault}
-use Rattle.desk_words.specs.declared.reply.Reply.{Reply}
-use Rattle.desk_words.specs.declared.reply.Reply.TheVariants.{Done, Refused}
+use Rattle.desk_words.specs.declared.reply.Reply.TheVariants.{Done}
 use Rattle.desk_words.specs.declared.reply.Answer.{Answer}
 use Rattle.desk_words.specs.declared.reply.Answer.TheVariants.{Balance as BalanceAnswer}
 use Rattle.desk_words.specs.declared.reply.Refusal.{Refusal}
 use Rattle.desk_words.specs.declared.reply.Refusal.TheVariants.{UnknownClerk, BadField}
 use Rattle.desk_words.specs.declared.reply.Field.TheVariants.{Register as RegisterField}
 use Rattle.desk_words.specs.Reading.{request}
-use Rattle.desk_core.specs.State.{Setting, State, Desk}
+use Rattle.desk_core.specs.State.{Setting, Desk}
 use Rattle.desk_core.specs.Meanings.{everything, look_balance, Look, meaning_of}
 use Rattle.desk_core.specs.Serial.{Effect, read_answer, read_effect, effect_of, is_clerk, is_batch}
-use Rattle.desk_core.specs.Desk.{Event, event_of, step}
+use Rattle.desk_core.specs.Desk.{event_of, step}
 use Rattle.desk_core.specs.Answers.{is_blank, refused_event, event_of_reading, line_event, line_desk, desk_after}
 use Rattle.desk_core.specs.Laws.{IsBalance, BalancesHold, IsRefusal, RefusalKeeps}
 

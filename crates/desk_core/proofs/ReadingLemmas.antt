@@ -1,8 +1,7 @@
 -- Reading one element after another.
-use Rattle.std.proofs.Common.{◌≡◌, ℕ, ◌+◌, ◌<◌, List, [], ◌∷◌, ◌++◌, length, drop, get_or, suc, Result, Ok, Err, refl, ap, ◌∙◌, sym, arith, add-one, drop-cons, append_assoc}
+use Rattle.std.proofs.Common.{◌≡◌, ℕ, ◌+◌, ◌<◌, List, [], ◌∷◌, ◌++◌, length, drop, get_or, suc, Result, Ok, Err, refl, ap, ◌∙◌, sym, add-one, drop-cons, append_assoc}
 use Rattle.reg_base.specs.Results.{◌>>=◌}
 use Rattle.desk_words.specs.declared.reply.Refusal.{Refusal}
-use Rattle.desk_core.specs.Meanings.{each, check_each}
 
 -- what was read, and then what is left to be read
 abbrev pub following : {X : Type 0} → List X → Result (List X) Refusal → Result (List X) Refusal

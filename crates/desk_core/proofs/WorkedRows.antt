@@ -1,5 +1,5 @@
 -- Worked rows of the desk machine, computed from its definitions.
-use Rattle.std.proofs.Common.{◌≡◌, ℕ, ℤ, pos, negsuc, Bool, true, false, Option, Some, None, List, [], ◌∷◌, refl, codes, map, unwrap_or, slice_get}
+use Rattle.std.proofs.Common.{◌≡◌, ℕ, pos, true, false, Some, None, List, [], ◌∷◌, refl, codes, map, unwrap_or, slice_get}
 use Rattle.reg_base.specs.declared.value.Value.TheVariants.{Code}
 use Rattle.reg_base.specs.declared.records.Mark.{Mark}
 use Rattle.reg_base.specs.declared.records.Mark.TheVariants.{Receipt, Expense, Turn}
@@ -9,7 +9,6 @@ use Rattle.reg_base.specs.declared.cut.Cut.TheVariants.{BeforeDate, ThroughDate}
 use Rattle.reg_base.specs.Codes.{is_code}
 use Rattle.reg_base.specs.Numbers.{parse_num, digits_from, decimals_from, last_digits_from, units_of}
 use Rattle.reg_base.specs.Balances.{sum_rows}
-use Rattle.cfg_model.specs.declared.config.Config.{Config}
 use Rattle.desk_words.specs.declared.request.Request.{Request}
 use Rattle.desk_words.specs.declared.request.Request.TheVariants.{Manual, Balance}
 use Rattle.desk_words.specs.declared.request.SetText.{SetText}
@@ -19,12 +18,11 @@ use Rattle.desk_words.specs.declared.reply.Reply.TheVariants.{Done, Refused}
 use Rattle.desk_words.specs.declared.reply.Answer.TheVariants.{Document as DocumentAnswer, Balance as BalanceAnswer}
 use Rattle.desk_words.specs.declared.reply.Refusal.TheVariants.{UnknownClerk, BadField, Limit}
 use Rattle.desk_words.specs.declared.reply.Limit.TheVariants.{Numbers}
-use Rattle.desk_words.specs.declared.reply.Field.TheVariants.{Space, Register as RegisterField, Values, Sums, Kind}
-use Rattle.reg_base.specs.declared.records.Document.{Document}
+use Rattle.desk_words.specs.declared.reply.Field.TheVariants.{Space, Values, Sums, Kind}
 use Rattle.desk_core.specs.State.{Setting, Desk, first_desk}
 use Rattle.desk_core.specs.Meanings.{read_text, read_record, space_of, read_set, given_of, look_balance}
 use Rattle.desk_core.specs.Serial.{make_set, work_of, change_work, read_answer, effect_of}
-use Rattle.desk_core.specs.Desk.{Event, step}
+use Rattle.desk_core.specs.Desk.{step}
 
 -- a register of goods by item, with a quantity of three decimals and an amount of two, and one clerk
 shop : Setting

@@ -4,7 +4,7 @@ use Rattle.desk_words.specs.declared.request.Request.{Request}
 use Rattle.desk_words.specs.declared.reply.Reply.{Reply}
 use Rattle.desk_words.specs.declared.reply.Reply.TheVariants.{Done, Refused}
 use Rattle.desk_words.specs.declared.reply.Refusal.{Refusal}
-use Rattle.desk_core.specs.State.{Setting, State, Desk, Command}
+use Rattle.desk_core.specs.State.{Setting, Desk, Command}
 use Rattle.desk_core.specs.Serial.{Effect, effect_of}
 
 -- what one request comes to: its reply, the desk after, and the commands that it commits

@@ -1,5 +1,5 @@
 -- What a request means under a configuration.
-use Rattle.std.specs.Prelude.{ℕ, ℤ, pos, Bool, true, false, not, ◌&&◌, ◌==◌, nat_le, Option, Some, None, unwrap_or, option_map, is_some, List, [], ◌∷◌, ◌++◌, map, length, slice_get, slice_set, replicate, Result, Ok, Err, if◌then◌else◌}
+use Rattle.std.specs.Prelude.{ℕ, ℤ, Bool, true, not, ◌&&◌, Option, Some, None, unwrap_or, option_map, List, [], ◌∷◌, map, length, slice_get, slice_set, replicate, Result, Ok, Err, if◌then◌else◌}
 use Rattle.std.specs.List.{list_any}
 use Rattle.std.specs.Str.{bytes_eq}
 use Rattle.std.specs.Result.{result_ok}

@@ -1,5 +1,5 @@
 -- The serial machine: what one request does to the documents.
-use Rattle.std.specs.Prelude.{ℕ, ◌+◌, pos, Bool, not, ◌||◌, codes, nat_lt, nat_le, Option, Some, None, is_some, List, [], ◌∷◌, filter, length, Result, Ok, Err}
+use Rattle.std.specs.Prelude.{ℕ, ◌+◌, pos, Bool, not, ◌||◌, codes, nat_lt, nat_le, Option, Some, None, is_some, List, [], ◌∷◌, filter, length, Result, Ok}
 use Rattle.std.specs.List.{list_any}
 use Rattle.std.specs.Str.{bytes_eq}
 use Rattle.std.specs.Ordering.{nat_cmp, int_eq, match_ordering}
@@ -19,7 +19,7 @@ use Rattle.desk_words.specs.declared.reply.Limit.TheVariants.{Numbers}
 use Rattle.desk_core.specs.declared.given.Given.{Given}
 use Rattle.desk_core.specs.declared.work.Work.{Work}
 use Rattle.desk_core.specs.State.{Setting, State}
-use Rattle.desk_core.specs.Meanings.{Sight, Plan, Look, Deed, changes, reads_register, Meaning, meaning_of, each}
+use Rattle.desk_core.specs.Meanings.{Sight, Plan, Look, Deed, changes, reads_register, meaning_of, each}
 
 -- what a request leaves: the state after, the works, the answer, and the number in its command
 -- where it is a change

@@ -1,22 +1,19 @@
 -- The JSON of a request that a line can be is plain, and nests a few levels deep.
-use Rattle.std.proofs.Common.{◌≡◌, ℕ, suc, ◌^◌, ◌<◌, ◌≤◌, max, true, nat_lt, Option, Some, None, IfSome, List, [], ◌∷◌, map, IsUtf8, codes, refl, arith}
-use Rattle.std.specs.List.{AllByRecursion, list_all}
-use Rattle.serde_json.specs.Data.{Data, string, object, Members, no_members, depth, items_depth}
+use Rattle.std.proofs.Common.{ℕ, ◌≤◌, Option, Some, None, IfSome, List, [], ◌∷◌, map, IsUtf8, codes, refl, arith}
+use Rattle.std.specs.List.{AllByRecursion}
+use Rattle.serde_json.specs.Data.{Data, string, depth, items_depth}
 use Rattle.serde_json.specs.View.{items_of}
-use Rattle.json_laws.specs.Plain.{stands_before, IsNameBefore, IsPlain, ItemsArePlain, MembersArePlain}
-use Rattle.reg_base.specs.Cuts.{IsCut, cut_text}
-use Rattle.reg_base.specs.Dates.{date_text}
-use Rattle.reg_base.specs.declared.cut.Cut.{Cut}
+use Rattle.json_laws.specs.Plain.{IsPlain, ItemsArePlain}
 use Rattle.reg_base.specs.declared.records.Mark.{Mark}
 use Rattle.reg_base.specs.declared.records.Mark.TheVariants.{Receipt, Expense, Turn}
 use Rattle.reg_base.specs.declared.records.Side.{Side}
-use Rattle.reg_base.proofs.Utf8Lemmas.{IsUtf8-tested, IsUtf8-code, IsUtf8-name, IsUtf8-date_text, IsUtf8-cut_text}
+use Rattle.reg_base.proofs.Utf8Lemmas.{IsUtf8-tested, IsUtf8-code, IsUtf8-name}
 use Rattle.desk_words.specs.declared.request.SetText.{SetText}
 use Rattle.desk_words.specs.declared.request.RecordText.{RecordText}
 use Rattle.desk_words.specs.declared.request.RecordText.TheVariants.{Register, Ledger}
 use Rattle.desk_words.specs.ReplyTexts.{texts_data}
 use Rattle.desk_words.specs.RequestTexts.{mark_name, side_data, register_data, ledger_data, record_data, set_data, sets_data}
-use Rattle.desk_words.specs.WellFormed.{IsName, IsCode, IsSide, IsRecordText, IsSetText}
+use Rattle.desk_words.specs.WellFormed.{IsCode, IsSide, IsRecordText, IsSetText}
 
 -- ---- plain values
 

@@ -1,7 +1,7 @@
 -- The canonical text of a request is read as that request.
-use Rattle.std.proofs.Common.{◌≡◌, ℕ, ◌^◌, ◌<◌, ◌≤◌, true, nat_le, Option, Some, None, option_map, IfSome, List, [], ◌∷◌, map, Result, Ok, Err, codes, refl, sym, ap, ◌∙◌, subst, arith, rules, tests}
+use Rattle.std.proofs.Common.{◌≡◌, ℕ, ◌<◌, ◌≤◌, true, nat_le, Option, Some, None, IfSome, List, [], ◌∷◌, map, Ok, codes, refl, sym, ◌∙◌, subst, arith, rules, tests}
 use Rattle.std.specs.List.{AllByRecursion}
-use Rattle.serde_json.specs.Data.{Data, string, object, Members, no_members, depth}
+use Rattle.serde_json.specs.Data.{Data, string, object, Members, depth}
 use Rattle.serde_json.specs.Read.{max_depth}
 use Rattle.serde_json.specs.View.{items_of}
 use Rattle.serde_json.specs.Written.{compact_text}
@@ -28,8 +28,8 @@ use Rattle.desk_words.specs.declared.request.SetText.{SetText}
 use Rattle.desk_words.specs.declared.request.RecordText.{RecordText}
 use Rattle.desk_words.specs.declared.request.RecordText.TheVariants.{Register, Ledger}
 use Rattle.desk_words.specs.Shapes.{Shaped, value_at, object_of, items_of as items_at, text_of, name_of, code_of, date_of, cut_of, number_of, each_item, texts_of, codes_of}
-use Rattle.desk_words.specs.Sets.{mark_of, side_from, side_of, register_record, ledger_record, record_of, records_of, set_of, sets_of}
-use Rattle.desk_words.specs.Reading.{document, operation_of, check_present, check_known, cut_at, manual_of, balance_of, members_of, request_in, request_of_text, request}
+use Rattle.desk_words.specs.Sets.{mark_of, side_of, register_record, ledger_record, record_of, records_of, set_of, sets_of}
+use Rattle.desk_words.specs.Reading.{operation_of, check_present, check_known, cut_at, manual_of, balance_of, members_of, request_in, request_of_text, request}
 use Rattle.desk_words.specs.ReplyTexts.{whole, texts_data}
 use Rattle.desk_words.specs.RequestTexts.{mark_name, side_data, register_data, ledger_data, record_data, set_data, sets_data, manual_frame, manual_members, balance_frame, balance_members, request_data, request_text}
 use Rattle.desk_words.specs.WellFormed.{IsCode, IsName, IsSide, IsRecordText, IsSetText, IsManual, IsBalance, IsRequest}

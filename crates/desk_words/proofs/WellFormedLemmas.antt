@@ -10,7 +10,7 @@ use Rattle.std.specs.declared.cmp.Ordering.TheVariants.{Less, Equal, Greater}
 use Rattle.std.specs.Prelude.{⊤, option_and_then}
 use Rattle.serde_json.specs.Data.{Data, null, boolean, number, string, array, object as of_members, Items, no_items, item, Members, no_members, member}
 use Rattle.serde_json.specs.Events.{members_len}
-use Rattle.serde_json.specs.Find.{get_member, as_null, as_object, as_number, as_u64, as_str}
+use Rattle.serde_json.specs.Find.{get_member, as_null, as_object, as_number, as_u64}
 use Rattle.json_laws.specs.Plain.{HasUtf8, ItemsHaveUtf8, MembersHaveUtf8}
 use Rattle.reg_base.specs.Codes.{is_code, is_name}
 use Rattle.reg_base.specs.Cuts.{IsCut, parse_cut}
@@ -23,22 +23,16 @@ use Rattle.reg_base.proofs.ResultLemmas.{IfOk-then, IfOk-next, IfOk-unless, IfOk
 use Rattle.desk_words.specs.declared.fault.Member.{Member}
 use Rattle.desk_words.specs.declared.fault.Member.TheVariants.{Clerk, No, Date, Sets, Register as Register_word, Cut as Cut_word}
 use Rattle.desk_words.specs.declared.fault.WordFault.{WordFault}
-use Rattle.desk_words.specs.declared.fault.WordFault.TheVariants.{BadMember, NotJson, NotObject, Memory}
+use Rattle.desk_words.specs.declared.fault.WordFault.TheVariants.{BadMember, Memory}
 use Rattle.desk_words.specs.declared.members.Operation.{Operation}
 use Rattle.desk_words.specs.declared.members.Operation.TheVariants.{Manual as Manual_op, Balance as Balance_op}
 use Rattle.desk_words.specs.declared.request.Request.{Request}
 use Rattle.desk_words.specs.declared.request.Request.TheVariants.{Manual as Manual_request, Balance as Balance_request}
-use Rattle.desk_words.specs.declared.request.Manual.{Manual}
-use Rattle.desk_words.specs.declared.request.Balance.{Balance}
-use Rattle.desk_words.specs.declared.request.SetText.{SetText}
-use Rattle.desk_words.specs.declared.request.RecordText.{RecordText}
 use Rattle.desk_words.specs.declared.request.RecordText.TheVariants.{Register, Ledger}
-use Rattle.desk_words.specs.declared.request.RegisterText.{RegisterText}
-use Rattle.desk_words.specs.declared.request.LedgerText.{LedgerText}
 use Rattle.desk_words.specs.Members.{member_name}
 use Rattle.desk_words.specs.Shapes.{Shaped, value_at, object_of, items_of, text_of, name_of, code_of, date_of, cut_of, number_of, each_item, texts_of, codes_of}
 use Rattle.desk_words.specs.Sets.{mark_of, side_from, side_if, side_of, register_record, ledger_record, record_if, record_of, records_of, set_of, sets_of}
-use Rattle.desk_words.specs.Reading.{document, operation_of, check_present, check_known, name_at, number_at, date_at, sets_at, cut_if, cut_at, manual_of, balance_of, members_of, request_in, request_of_text}
+use Rattle.desk_words.specs.Reading.{operation_of, check_present, check_known, name_at, number_at, date_at, sets_at, cut_if, cut_at, manual_of, balance_of, members_of, request_in}
 use Rattle.desk_words.specs.WellFormed.{IsName, IsCode, IsSide, IsRegisterText, IsLedgerText, IsRecordText, IsSetText, IsManual, IsBalance, IsRequest}
 
 -- ---- texts inside a value

@@ -3,7 +3,7 @@ use Rattle.std.proofs.Common.{◌≡◌, ℕ, List, [], ◌∷◌, None, Some, O
 use Rattle.serde_json.specs.Data.{Data, null, boolean, string, number, unsigned, array, object, item, no_items, member, no_members}
 use Rattle.json.specs.Print.{escape_byte}
 use Rattle.reg_base.specs.Codes.{is_name}
-use Rattle.reg_base.specs.Cuts.{parse_cut, cut_by_word, cut_through, cut_before, cut_text}
+use Rattle.reg_base.specs.Cuts.{parse_cut, cut_by_word, cut_through, cut_before}
 use Rattle.reg_base.specs.Dates.{parse_date, date_text}
 use Rattle.reg_base.specs.Numbers.{sum_text, units_text, number_text}
 use Rattle.reg_base.specs.declared.cut.Cut.TheVariants.{ThroughDate}

@@ -1,5 +1,5 @@
 -- A line is answered by what it comes to.
-use Rattle.std.proofs.Common.{◌≡◌, ◌∙◌, sym, subst}
+use Rattle.std.proofs.Common.{◌∙◌, sym, subst}
 use Rattle.std.specs.Option.{ForSome}
 use Rattle.desk_core.specs.declared.work.Outcome.{Outcome}
 use Rattle.desk_core.specs.Opened.{IsNext}

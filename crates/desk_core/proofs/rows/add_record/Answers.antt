@@ -1,5 +1,4 @@
-use Rattle.std.proofs.Common.{◌≡◌, ℕ, ◌<◌, ap, ◌∙◌, sym, subst, arith, length, take, drop, ◌++◌, is_eq, ◌+ℤ◌}
-use Rattle.std.specs.BTreeMap.{is_at}
+use Rattle.std.proofs.Common.{ap, ◌∙◌, sym, arith, length, is_eq, ◌+ℤ◌}
 use Rattle.std.specs.Cmp.Lexicographic.{slice_cmp}
 use Rattle.reg_base.specs.contracts.value.ValueOrd.TheImpl.{ghosts}
 use Rattle.reg_base.specs.Records.{amount_at}

@@ -1,5 +1,5 @@
 use Rattle.std.proofs.Common.{ap, ◌∙◌, sym}
-use Rattle.desk_core.specs.Rows.{booked, rows_of, sums_at}
+use Rattle.desk_core.specs.Rows.{booked, rows_of}
 use Rattle.desk_core.proofs.RowLemmas.{put_row, AddsUp-push, rows_of-insert_entry, derived-values_cmp}
 use Rattle.desk_core.proofs.rows.make_row.Goals as goal
 

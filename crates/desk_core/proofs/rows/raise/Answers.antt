@@ -1,4 +1,4 @@
-use Rattle.std.proofs.Common.{ℕ, ℤ, ◌+ℤ◌, ap, ◌∙◌, sym, arith, rules, below_more, SFits}
+use Rattle.std.proofs.Common.{ℕ, ℤ, ◌+ℤ◌, ap, ◌∙◌, rules, below_more, SFits}
 use Rattle.std.specs.Int.{w128}
 use Rattle.std.proofs.lemmas.Int.{to_z-of_z}
 use Rattle.std.specs.Prelude.{slice_set}

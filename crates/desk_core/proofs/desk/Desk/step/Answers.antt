@@ -1,5 +1,5 @@
 -- A step is what its request comes to, taken over.
-use Rattle.std.proofs.Common.{◌≡◌, ap, ◌∙◌, sym, subst}
+use Rattle.std.proofs.Common.{ap, ◌∙◌, sym, subst}
 use Rattle.std.specs.Option.{ForSome}
 use Rattle.desk_core.specs.declared.work.Outcome.{Outcome}
 use Rattle.desk_core.specs.State.{Desk}

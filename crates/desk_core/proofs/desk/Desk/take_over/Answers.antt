@@ -1,5 +1,4 @@
 -- The document that is taken over stands behind the others.
-use Rattle.std.proofs.Common.{◌≡◌, ap, ◌∙◌, sym}
 use Rattle.desk_core.proofs.DeskLemmas.{desk_with-taken}
 use Rattle.desk_core.proofs.desk.Desk.take_over.Goals as goal
 
