@@ -8,14 +8,14 @@ use Rattle.desk_core.specs.Opened.{Opened}
 use Rattle.regdesk.specs.declared.run.RunEnd.{RunEnd}
 use Rattle.regdesk.specs.declared.run.RunEnd.TheVariants.{Memory as RunMemory, Read as RunRead, Write as RunWrite, InputTooLong as RunTooLong}
 use Rattle.regdesk.specs.declared.fault.Fault.{Fault}
-use Rattle.regdesk.specs.declared.fault.Fault.TheVariants.{Usage, Configuration, Memory, Read, Write, File, FileTooLong, InputTooLong}
+use Rattle.regdesk.specs.declared.fault.Fault.TheVariants.{Usage, Configuration, Rules, Memory, Read, Write, File, FileTooLong, InputTooLong}
 use Rattle.regdesk.specs.Runs.{Streams, Runs}
 use Rattle.regdesk.specs.Statuses.{run_fault, end_status}
-use Rattle.regdesk.specs.Ends.{ShelfState, AskNothing, ReadsAs, RunsFile, Ends, RunsWith, first_opened}
+use Rattle.regdesk.specs.Ends.{ShelfState, AskNothing, ReadsAs, RunsFile, Ends, RunsWith, IsAccepted, first_opened}
 
 -- a run that ended early is what the call comes to
 pub RunsFile-fault : (name : List ℕ) (shelf shelf_now : ShelfState) (before now : Streams) (end : RunEnd) (config : Config)
-    → ReadsAs shelf.files name (λ bytes. read_config bytes ≡ Ok config)
+    → ReadsAs shelf.files name (λ bytes. IsAccepted bytes config)
     → RunsWith config before now (Err end)
     → RunsFile name shelf shelf_now before now (Err (run_fault end))
 RunsFile-fault name shelf shelf_now before now RunMemory config accepted run =
@@ -33,6 +33,7 @@ status_is_usage : (name : List ℕ) (shelf shelf_now : ShelfState) (before now :
 status_is_usage name shelf shelf_now before now (Ok done) runs e = absurd (omega (arith, e))
 status_is_usage name shelf shelf_now before now (Err Usage) runs e = absurd runs
 status_is_usage name shelf shelf_now before now (Err (Configuration fault)) runs e = absurd (omega (arith, e))
+status_is_usage name shelf shelf_now before now (Err (Rules fault)) runs e = absurd (omega (arith, e))
 status_is_usage name shelf shelf_now before now (Err Memory) runs e = absurd (omega (arith, e))
 status_is_usage name shelf shelf_now before now (Err Read) runs e = absurd (omega (arith, e))
 status_is_usage name shelf shelf_now before now (Err Write) runs e = absurd (omega (arith, e))

@@ -6,11 +6,12 @@ use Rattle.reg_io.specs.Files.{file_named, file_read}
 use Rattle.reg_io.specs.declared.shelf.ShelfFault.TheVariants.{TooLong}
 use Rattle.cfg_model.specs.declared.config.Config.{Config}
 use Rattle.cfg_model.specs.Reading.{read_config}
+use Rattle.rule_lang.specs.Rules.{rules_of}
 use Rattle.desk_core.specs.Opened.{Opened}
 use Rattle.desk_core.specs.Answers.{answers}
 use Rattle.desk_core.specs.State.{first_desk}
 use Rattle.regdesk.specs.declared.fault.Fault.{Fault}
-use Rattle.regdesk.specs.declared.fault.Fault.TheVariants.{Usage, Configuration, Memory, Read, Write, File, FileTooLong, InputTooLong}
+use Rattle.regdesk.specs.declared.fault.Fault.TheVariants.{Usage, Configuration, Rules, Memory, Read, Write, File, FileTooLong, InputTooLong}
 use Rattle.regdesk.specs.declared.desk_main.TheConstants.{MOST_CONFIG_BYTES}
 use Rattle.regdesk.specs.Runs.{Streams, AnswersAll}
 use Rattle.regdesk.specs.Statuses.{end_status, file_word}
@@ -50,12 +51,17 @@ file_succeeds : (words : List (List ℕ)) (shelf shelf_now : ShelfState) (before
 file_succeeds words shelf shelf_now before now config input name (Ok done) may is_run run =
     let same = same_bytes words shelf shelf_now before now config input name run.accepted.bytes may is_run run.accepted.has in
     let same_config : run.config ≡ config =
-    ok_same (read_config run.accepted.bytes) run.config config run.accepted.read_as (rw same at may.accepted) in
+    ok_same (read_config run.accepted.bytes) run.config config run.accepted.read_as.0 (rw same at may.accepted.0) in
     inl (refl, rw same_config at (all_answers run.config run.run.0 before now input may.input_is run.run.1))
 file_succeeds words shelf shelf_now before now config input name (Err Usage) may is_run run = absurd run
 file_succeeds words shelf shelf_now before now config input name (Err (Configuration fault)) may is_run run =
     let same = same_bytes words shelf shelf_now before now config input name run.0.bytes may is_run run.0.has in
-    absurd (not_both (read_config run.0.bytes) config fault (rw same at may.accepted) run.0.read_as)
+    absurd (not_both (read_config run.0.bytes) config fault (rw same at may.accepted.0) run.0.read_as)
+file_succeeds words shelf shelf_now before now config input name (Err (Rules fault)) may is_run run =
+    let same = same_bytes words shelf shelf_now before now config input name run.0.bytes may is_run run.0.has in
+    let same_config : run.0.read_as.0 ≡ config =
+    ok_same (read_config run.0.bytes) run.0.read_as.0 config run.0.read_as.1 (rw same at may.accepted.0) in
+    absurd (not_both (rules_of config) may.accepted.1 fault may.accepted.2 (rw same_config at run.0.read_as.2))
 file_succeeds words shelf shelf_now before now config input name (Err Memory) may is_run run = inr refl
 file_succeeds words shelf shelf_now before now config input name (Err Read) may is_run run =
     absurd (may.reads run.run.1.cause)

@@ -6,6 +6,9 @@ use Rattle.reg_io.specs.Files.{file_named, file_read}
 use Rattle.reg_io.specs.declared.shelf.ShelfFault.TheVariants.{TooLong}
 use Rattle.cfg_model.specs.declared.config.Config.{Config}
 use Rattle.cfg_model.specs.Reading.{read_config}
+use Rattle.rule_lang.specs.declared.statement.Statement.{Statement}
+use Rattle.rule_lang.specs.declared.fault.RuleFault.{RuleFault}
+use Rattle.rule_lang.specs.Rules.{rules_of}
 use Rattle.desk_core.specs.State.{first_desk}
 use Rattle.desk_core.specs.Opened.{Opened}
 use Rattle.desk_core.specs.Answers.{answers}
@@ -14,7 +17,7 @@ use Rattle.regdesk.specs.declared.run.RunEnd.TheVariants.{Memory as RunMemory, R
 use Rattle.regdesk.specs.declared.run.TheConstants.{MOST_INPUT_BYTES}
 use Rattle.regdesk.specs.declared.desk_main.TheConstants.{MOST_CONFIG_BYTES}
 use Rattle.regdesk.specs.declared.fault.Fault.{Fault}
-use Rattle.regdesk.specs.declared.fault.Fault.TheVariants.{Usage, Configuration, Memory, Read, Write, File, FileTooLong, InputTooLong}
+use Rattle.regdesk.specs.declared.fault.Fault.TheVariants.{Usage, Configuration, Rules, Memory, Read, Write, File, FileTooLong, InputTooLong}
 use Rattle.regdesk.specs.Runs.{Streams, Runs}
 use Rattle.regdesk.specs.Statuses.{fault_line, line_is_made, end_status}
 
@@ -52,10 +55,23 @@ pub record ReadsAs (files : Option (List (List ℕ × List ℕ))) (name : List �
   pub has : HasBytes files name bytes
   pub read_as : read bytes
 
+-- the bytes of a file are accepted as this configuration: it is read, and so are its rules
+abbrev pub IsAccepted : List ℕ → Config → Type 0
+IsAccepted bytes config =
+    (read_config bytes ≡ Ok config)
+    × (rules : List (List Statement)) × (rules_of config ≡ Ok rules)
+
+-- the bytes of a file are a configuration whose rules have this fault
+abbrev pub RefusesRules : List ℕ → RuleFault → Type 0
+RefusesRules bytes fault =
+    (config : Config) × (read_config bytes ≡ Ok config) × (rules_of config ≡ Err fault)
+
 -- what reading the configuration of this name comes to
 abbrev pub ReadsConfig : List ℕ → ShelfState → ShelfState → Result Config Fault → Type 0
 ReadsConfig name before now (Ok config) = ReadsAs before.files name
-    (λ bytes. read_config bytes ≡ Ok config)
+    (λ bytes. IsAccepted bytes config)
+ReadsConfig name before now (Err (Rules fault)) = ReadsAs before.files name
+    (λ bytes. RefusesRules bytes fault)
 ReadsConfig name before now (Err (Configuration fault)) = ReadsAs before.files name
     (λ bytes. read_config bytes ≡ Err fault)
 ReadsConfig name before now (Err File) = Rose before.faults now.faults
@@ -74,7 +90,7 @@ RunsWith config before now end = (after : Opened) × Runs (first_opened config) 
 pub record RunsUnder (name : List ℕ) (files : Option (List (List ℕ × List ℕ)))
     (before now : Streams) (end : Result (Unit {0}) RunEnd) : Type 0 where
   pub config : Config
-  pub accepted : ReadsAs files name (λ bytes. read_config bytes ≡ Ok config)
+  pub accepted : ReadsAs files name (λ bytes. IsAccepted bytes config)
   pub run : RunsWith config before now end
 
 -- nothing was written to the output
@@ -99,6 +115,8 @@ RunsFile name shelf shelf_now before now
     (Err FileTooLong) = IsLongFile shelf.files name × KeepsOut before now
 RunsFile name shelf shelf_now before now (Err (Configuration fault)) =
     ReadsAs shelf.files name (λ bytes. read_config bytes ≡ Err fault) × KeepsOut before now
+RunsFile name shelf shelf_now before now (Err (Rules fault)) =
+    ReadsAs shelf.files name (λ bytes. RefusesRules bytes fault) × KeepsOut before now
 RunsFile name shelf shelf_now before now (Err Usage) = ⊥
 
 -- what a top call comes to: other words are a fault of usage, and `run` runs the file that it names
@@ -132,7 +150,7 @@ pub record MayRun (words : List (List ℕ)) (shelf shelf_now : ShelfState) (befo
   pub files : shelf.files ≡ Some all
   pub bytes : List ℕ
   pub read : file_read (file_named name all) MOST_CONFIG_BYTES ≡ Ok bytes
-  pub accepted : read_config bytes ≡ Ok config
+  pub accepted : IsAccepted bytes config
   pub input_is : before.left ≡ Some input
   pub within : length input ≤ MOST_INPUT_BYTES
   pub file_calls : ¬ Rose shelf.faults shelf_now.faults

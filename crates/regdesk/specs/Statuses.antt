@@ -3,17 +3,21 @@ use Rattle.std.specs.Prelude.{ℕ, codes, Bool, true, false, List, [], ◌∷◌
 use Rattle.cfg_model.specs.declared.fault.CfgFault.{CfgFault}
 use Rattle.cfg_model.specs.declared.fault.CfgFault.TheVariants.{NotToml, Field, Twice, Unknown, Count, Memory as ConfigMemory}
 use Rattle.cfg_model.specs.FaultTexts.{fault_text}
+use Rattle.rule_lang.specs.declared.fault.RuleFault.{RuleFault}
+use Rattle.rule_lang.specs.declared.fault.RuleFault.TheVariants.{Wrong, Memory as RulesMemory}
+use Rattle.rule_lang.specs.FaultTexts.{fault_text as rule_fault_text}
 use Rattle.reg_io.specs.declared.shelf.ShelfFault.{ShelfFault}
 use Rattle.reg_io.specs.declared.shelf.ShelfFault.TheVariants.{Failed, TooLong, Memory as ShelfMemory}
 use Rattle.regdesk.specs.declared.run.RunEnd.{RunEnd}
 use Rattle.regdesk.specs.declared.run.RunEnd.TheVariants.{Memory as RunMemory, Read as RunRead, Write as RunWrite, InputTooLong as RunTooLong}
 use Rattle.regdesk.specs.declared.fault.Fault.{Fault}
-use Rattle.regdesk.specs.declared.fault.Fault.TheVariants.{Usage, Configuration, Memory, Read, Write, File, FileTooLong, InputTooLong}
+use Rattle.regdesk.specs.declared.fault.Fault.TheVariants.{Usage, Configuration, Rules, Memory, Read, Write, File, FileTooLong, InputTooLong}
 
 -- the status of a fault
 abbrev pub status_of : Fault → ℕ
 status_of Usage = 2
 status_of (Configuration fault) = 3
+status_of (Rules fault) = 3
 status_of Memory = 4
 status_of Read = 7
 status_of Write = 8
@@ -41,6 +45,11 @@ config_fault (Twice name) = Configuration (Twice name)
 config_fault (Unknown name) = Configuration (Unknown name)
 config_fault (Count what number) = Configuration (Count what number)
 
+-- the fault of rules that are refused, or of memory that was
+abbrev pub rules_fault : RuleFault → Fault
+rules_fault RulesMemory = Memory
+rules_fault (Wrong kind place why) = Rules (Wrong kind place why)
+
 -- the fault of a run that ended early
 abbrev pub run_fault : RunEnd → Fault
 run_fault RunMemory = Memory
@@ -62,6 +71,7 @@ program_line front text = codes "regdesk: " ++ (front ++ (text ++ 10 ∷ []))
 abbrev pub fault_line : List (List ℕ) → Fault → List ℕ
 fault_line words Usage = program_line (codes "usage: ") (codes "regdesk COMMAND")
 fault_line words (Configuration fault) = program_line (codes "configuration: ") (fault_text fault)
+fault_line words (Rules fault) = program_line (codes "rules: ") (rule_fault_text fault)
 fault_line words Memory = program_line [] (codes "memory")
 fault_line words Read = program_line [] (codes "read")
 fault_line words Write = program_line [] (codes "write")
@@ -73,6 +83,7 @@ fault_line words InputTooLong = program_line [] (codes "too long")
 abbrev pub line_is_made : Fault → Bool
 line_is_made Usage = false
 line_is_made (Configuration fault) = true
+line_is_made (Rules fault) = true
 line_is_made Memory = false
 line_is_made Read = false
 line_is_made Write = false

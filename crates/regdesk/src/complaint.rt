@@ -22,6 +22,11 @@ pub fn complain<E: Sink>(alloc: Global, words: &[String], end: &Result<(), Fault
                 write_made(alloc, "configuration: ", text.as_str(), err);
             }
         }
+        Fault::Rules { fault } => {
+            if let Ok(text) = fault.text(alloc) {
+                write_made(alloc, "rules: ", text.as_str(), err);
+            }
+        }
         Fault::Memory => write_line(err, b"regdesk: memory\n"),
         Fault::Read => write_line(err, b"regdesk: read\n"),
         Fault::Write => write_line(err, b"regdesk: write\n"),

@@ -12,6 +12,7 @@ use crate::run::{RunEnd, run_lines};
 use cfg_model::Config;
 use desk_core::Desk;
 use reg_io::{Disk, Shelf, Sink, Source};
+use rule_lang::Rules;
 use std::alloc::Global;
 use std::thread::Threads;
 
@@ -163,5 +164,6 @@ fn read_config<F: Shelf>(alloc: Global, name: &str, shelf: &mut F) -> Result<Con
 {
     let bytes = shelf.read_file(alloc, name, MOST_CONFIG_BYTES)?;
     let config = Config::read(alloc, bytes.as_slice())?;
+    Rules::read(alloc, &config)?;
     Ok(config)
 }

@@ -1,10 +1,11 @@
 //! Why a top call did not end well: its status and its line on the error output.
 ghost use Rattle.std.specs.Prelude.{◌≡◌};
-ghost use Rattle.regdesk.specs.Statuses.{status_of, end_status, file_fault, config_fault, run_fault};
+ghost use Rattle.regdesk.specs.Statuses.{status_of, end_status, file_fault, config_fault, rules_fault, run_fault};
 
 use crate::run::RunEnd;
 use cfg_model::CfgFault;
 use reg_io::ShelfFault;
+use rule_lang::RuleFault;
 
 /// Why a top call did not end well.
 #[derive(Debug, Drop)]
@@ -13,6 +14,8 @@ pub enum Fault {
     Usage,
     /// The configuration is refused.
     Configuration { fault: CfgFault },
+    /// The rules of a document type are refused.
+    Rules { fault: RuleFault },
     /// Memory was refused.
     Memory,
     /// A read of the input failed.
@@ -35,6 +38,7 @@ impl Fault {
         match self {
             Fault::Usage => 2,
             Fault::Configuration { .. } => 3,
+            Fault::Rules { .. } => 3,
             Fault::Memory => 4,
             Fault::Read => 7,
             Fault::Write => 8,
@@ -74,6 +78,17 @@ impl From<CfgFault> for Fault {
         match fault {
             CfgFault::Memory => Fault::Memory,
             fault => Fault::Configuration { fault },
+        }
+    }
+}
+
+impl From<RuleFault> for Fault {
+    ghost from_gives = { λ fault e. e ≡ rules_fault fault };
+
+    fn from(fault: RuleFault) -> Fault {
+        match fault {
+            RuleFault::Memory => Fault::Memory,
+            fault => Fault::Rules { fault },
         }
     }
 }

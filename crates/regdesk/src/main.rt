@@ -23,6 +23,8 @@ mod line_rows;
 #[cfg(test)]
 mod line_table;
 mod program;
+#[cfg(test)]
+mod rules_table;
 mod run;
 #[cfg(test)]
 mod spaces_table;

@@ -32,3 +32,9 @@ returns-in-FileTooLong g c =
 pub returns-in-InputTooLong : goal.returns-in-InputTooLong
 returns-in-InputTooLong g c =
     rw c.in-Err.is (rw c.in-InputTooLong.is (inl c.write_line-in-InputTooLong.ensures))
+
+pub returns-in-Ok-text : goal.returns-in-Ok-text
+returns-in-Ok-text g c = rw c.in-Err.is (rw c.in-Rules.is (elim c.write_made-in-Ok-text.ensures [
+  | inl line ↦ inl (rw (c.as_str-in-Ok-text.ensures.value ∙ c.in-Ok-text.ensures) at line)
+  | inr kept ↦ inr (refl, kept)
+]))

@@ -1,0 +1,162 @@
+-- The rules of a configuration: the statements of each document type, or the first fault.
+use Rattle.std.specs.Prelude.{ℕ, Bool, true, false, not, ◌+◌, ◌&&◌, ◌||◌, nat_lt, List, [], ◌∷◌, Option, Some, None, option_and_then, option_map, is_some, slice_get, Result, Ok, Err, if◌then◌else◌}
+use Rattle.std.specs.List.{list_any, list_all}
+use Rattle.std.specs.Str.{bytes_eq}
+use Rattle.reg_base.specs.Results.{◌>>=◌, unless}
+use Rattle.cfg_model.specs.declared.config.Config.{Config}
+use Rattle.cfg_model.specs.declared.kind.Kind.{Kind}
+use Rattle.cfg_model.specs.declared.register.Register.{Register}
+use Rattle.cfg_model.specs.declared.sequence.Sequence.{Sequence}
+use Rattle.rule_text.specs.Sentences.{statements_of}
+use Rattle.rule_text.specs.declared.fault.TextFault.{TextFault}
+use Rattle.rule_text.specs.declared.fault.TextFault.TheVariants.{Syntax as NoSyntax, Memory as NoMemory}
+use Rattle.rule_text.specs.declared.plain.PlainAct.{PlainAct}
+use Rattle.rule_text.specs.declared.plain.PlainAct.TheVariants.{Make as PlainMake, WriteOff as PlainWriteOff, Require as PlainRequire, Control as PlainControl, Entry as PlainEntry}
+use Rattle.rule_text.specs.declared.plain.PlainCond.{PlainCond}
+use Rattle.rule_text.specs.declared.plain.PlainStatement.{PlainStatement}
+use Rattle.rule_text.specs.declared.plain.Scope.{Scope}
+use Rattle.rule_text.specs.declared.plain.Scope.TheVariants.{Once, EachLine}
+use Rattle.rule_lang.specs.Least.{Checked, both, beside}
+use Rattle.rule_lang.specs.Acts.{act_of}
+use Rattle.rule_lang.specs.Terms.{cond_of}
+use Rattle.rule_lang.specs.declared.fault.RuleFault.{RuleFault}
+use Rattle.rule_lang.specs.declared.fault.RuleFault.TheVariants.{Wrong, Memory}
+use Rattle.rule_lang.specs.declared.fault.RuleWhy.{RuleWhy}
+use Rattle.rule_lang.specs.declared.fault.RuleWhy.TheVariants.{Syntax, WrongScope, TooMany, SequenceUnbound}
+use Rattle.rule_lang.specs.declared.costs.Costs.{Costs}
+use Rattle.rule_lang.specs.declared.terms.Round.{Round}
+use Rattle.rule_lang.specs.declared.statement.Act.{Act}
+use Rattle.rule_lang.specs.declared.statement.Act.TheVariants.{Make, WriteOff, Require, Control, Entry}
+use Rattle.rule_lang.specs.declared.statement.Bind.{Bind}
+use Rattle.rule_lang.specs.declared.statement.BindTo.{BindTo}
+use Rattle.rule_lang.specs.declared.statement.BindTo.TheVariants.{Code, Point}
+use Rattle.rule_lang.specs.declared.statement.CodeTerm.{CodeTerm}
+use Rattle.rule_lang.specs.declared.statement.CodeTerm.TheVariants.{Text, Head, Line}
+use Rattle.rule_lang.specs.declared.statement.Cond.{Cond}
+use Rattle.rule_lang.specs.declared.statement.Statement.{Statement}
+use Rattle.rule_lang.specs.Sequences.{keeps_sequences}
+
+-- a type has at most so many statements
+abbrev pub statement_limit : ℕ
+statement_limit = 64
+
+-- a statement without a scope runs once
+abbrev pub is_each : Option Scope → Bool
+is_each None = false
+is_each (Some Once) = false
+is_each (Some EachLine) = true
+
+-- the round that a statement runs in, with the scale of its latest write-off
+unfoldable pub round_of : Costs → Option Scope → Round
+round_of costs scope = by_each (is_each scope)
+  where
+    by_each : Bool → Round
+    by_each true = record { each = true; cost = costs.each }
+    by_each false = record { each = false; cost = costs.once }
+
+-- whether the act is a control
+abbrev pub is_control : PlainAct → Bool
+is_control (PlainControl register resource) = true
+is_control (PlainMake verb target sums) = false
+is_control (PlainWriteOff fifo target wanted cost) = false
+is_control (PlainRequire target resource least code) = false
+is_control (PlainEntry ledger sides amount) = false
+
+-- a control has no scope and no condition
+unfoldable pub scope_fits : PlainStatement → Checked (Unit {0})
+scope_fits plain =
+    unless (not (is_control plain.act) || not (is_some plain.scope || is_some plain.when))
+    WrongScope
+
+-- a condition, where there is one
+unfoldable pub when_of : Kind → Round → Option PlainCond → Checked (Option Cond)
+when_of kind round None = Ok None
+when_of kind round (Some plain) = do
+  cond ← cond_of kind round plain
+  Ok (Some cond)
+
+-- not too many are before, and the sequences are kept
+unfoldable pub last_fits : Config → Kind → ℕ → Act → Checked (Unit {0})
+last_fits config kind before act = do
+  _ ← unless (nat_lt before statement_limit) TooMany
+  unless (keeps_sequences config kind act) SequenceUnbound
+
+-- a statement of its parts, that so many are before
+unfoldable pub finished : Config → Kind → ℕ → Bool → Checked (Act × Option Cond)
+    → Checked Statement
+finished config kind before each parts = do
+  p ← parts
+  _ ← last_fits config kind before p.0
+  Ok (record { each = each; act = p.0; when = p.1 })
+
+-- a statement in its round, that so many are before
+unfoldable pub statement_in : Config → Kind → Round → ℕ → PlainStatement → Checked Statement
+statement_in config kind round before plain =
+    finished config kind before round.each (beside (scope_fits plain)
+    (both (act_of config kind round plain.act) (when_of kind round plain.when)))
+
+-- a statement that so many are before, all of which are right: of the reasons against it the one
+-- of the least number
+unfoldable pub statement_of : Config → Kind → Costs → ℕ → PlainStatement → Checked Statement
+statement_of config kind costs before plain =
+    statement_in config kind (round_of costs plain.scope) before plain
+
+-- the scale of a resource of a register
+unfoldable pub scale_at : Config → ℕ → ℕ → Option ℕ
+scale_at config register resource =
+    option_and_then (λ r. option_map (λ s. s.scale) (slice_get r.resources resource))
+    (slice_get config.registers register)
+
+-- the scale of the latest write-off of one scope in place of what was there
+abbrev pub with_scale : Costs → Bool → Option ℕ → Costs
+with_scale costs true scale = record { once = costs.once; each = scale }
+with_scale costs false scale = record { once = scale; each = costs.each }
+
+-- the scales of the latest write-offs behind a statement
+unfoldable pub costs_after : Config → Costs → Bool → Act → Costs
+costs_after config costs each (WriteOff fifo register binds quantity wanted amount) =
+    with_scale costs each (scale_at config register amount)
+costs_after config costs each (Make verb register binds sums) = costs
+costs_after config costs each (Require register binds resource least code) = costs
+costs_after config costs each (Control register resource) = costs
+costs_after config costs each (Entry ledger debit credit amount) = costs
+
+-- the fault of a type at a place
+abbrev pub fault_at : {X : Type 0} → Kind → ℕ → Checked X → Result X RuleFault
+fault_at kind place (Ok x) = Ok x
+fault_at kind place (Err why) = Err (Wrong kind.name place why)
+
+-- statements that so many are before; the first that is wrong is told by its first byte
+unfoldable pub statements_from : Config → Kind → Costs → ℕ → List PlainStatement
+    → Result (List Statement) RuleFault
+statements_from config kind costs before [] = Ok []
+statements_from config kind costs before (plain ∷ plains) = do
+  statement ← fault_at kind plain.place (statement_of config kind costs before plain)
+  statements ← statements_from config kind
+      (costs_after config costs statement.each statement.act) (before + 1) plains
+  Ok (statement ∷ statements)
+
+-- what a text says, or where its type has a fault of syntax
+abbrev pub read_for : Kind → Result (List PlainStatement) TextFault
+    → Result (List PlainStatement) RuleFault
+read_for kind (Ok plains) = Ok plains
+read_for kind (Err (NoSyntax place)) = Err (Wrong kind.name place Syntax)
+read_for kind (Err NoMemory) = Err Memory
+
+-- the statements of a type: its text is read whole before the first of them is looked at
+unfoldable pub kind_rules : Config → Kind → Result (List Statement) RuleFault
+kind_rules config kind = do
+  plains ← read_for kind (statements_of kind.rules)
+  statements_from config kind (record { once = None; each = None }) 0 plains
+
+-- the statements of each type, in the order of types
+unfoldable pub each_kind : Config → List Kind → Result (List (List Statement)) RuleFault
+each_kind config [] = Ok []
+each_kind config (kind ∷ kinds) = do
+  statements ← kind_rules config kind
+  others ← each_kind config kinds
+  Ok (statements ∷ others)
+
+-- the rules of a configuration
+unfoldable pub rules_of : Config → Result (List (List Statement)) RuleFault
+rules_of config = each_kind config config.kinds

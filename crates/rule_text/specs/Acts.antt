@@ -1,0 +1,216 @@
+-- How the acts of statements are written.
+use Rattle.std.specs.Prelude.{ℕ, codes, Bool, true, false, List, [], ◌∷◌, Option, Some, None, option_and_then, drop, if◌then◌else◌}
+use Rattle.rule_text.specs.Readers.{Reader, ◌>>=◌, give, stuck, front, takes, is_mark_next, is_word_next, is_spelt, word_of, mark, word, name, quoted, list_of}
+use Rattle.rule_text.specs.Sums.{code, sum}
+use Rattle.rule_text.specs.declared.mark.Mark.TheVariants.{Open, Close, Semicolon, Comma, Equal, AtLeast}
+use Rattle.rule_text.specs.declared.token.Lexeme.{Lexeme}
+use Rattle.rule_text.specs.declared.token.Spelling.{Spelling}
+use Rattle.rule_text.specs.declared.acts.Opening.{Opening}
+use Rattle.rule_text.specs.declared.acts.Opening.TheVariants.{Makes, WritesOff, Requires, Controls, Enters}
+use Rattle.rule_text.specs.declared.plain.PlainAct.{PlainAct}
+use Rattle.rule_text.specs.declared.plain.PlainAct.TheVariants.{Make, WriteOff, Require, Control, Entry}
+use Rattle.rule_text.specs.declared.plain.PlainAmount.{PlainAmount}
+use Rattle.rule_text.specs.declared.plain.PlainBind.{PlainBind}
+use Rattle.rule_text.specs.declared.plain.PlainCode.{PlainCode}
+use Rattle.rule_text.specs.declared.plain.PlainSide.{PlainSide}
+use Rattle.rule_text.specs.declared.plain.PlainSides.{PlainSides}
+use Rattle.rule_text.specs.declared.plain.PlainTo.{PlainTo}
+use Rattle.rule_text.specs.declared.plain.PlainTo.TheVariants.{Code, Point}
+use Rattle.rule_text.specs.declared.plain.Target.{Target}
+use Rattle.rule_text.specs.declared.plain.Verb.{Verb}
+use Rattle.rule_text.specs.declared.plain.Verb.TheVariants.{Receipt, Expense, Turn}
+
+-- `point`, or a code
+unfoldable pub bind_to : Reader PlainTo
+bind_to = do
+  point ← takes (is_word_next (codes "point"))
+  point_or point
+  where
+    point_or : Bool → Reader PlainTo
+    point_or true = give Point
+    point_or false = do
+      code ← code
+      give (Code code)
+
+-- a dimension, `=` and its value
+unfoldable pub bind : Reader PlainBind
+bind = do
+  dimension ← name
+  _ ← mark Equal
+  to ← bind_to
+  give (record { dimension = dimension; to = to })
+
+-- one more, where a comma follows
+abbrev pub after_comma : {X : Type 0} → Reader X → Reader (Option X)
+after_comma read = do
+  comma ← takes (is_mark_next Comma)
+  one_if comma read
+  where
+    one_if : {X : Type 0} → Bool → Reader X → Reader (Option X)
+    one_if true read = read >>= λ x. give (Some x)
+    one_if false read = give None
+
+-- one more bind
+unfoldable pub next_bind : Reader (Option PlainBind)
+next_bind = after_comma bind
+
+-- none before a semicolon, or one and more behind commas
+unfoldable pub binds : Reader (List PlainBind)
+binds = λ tokens. unless_ended (is_mark_next Semicolon tokens) tokens
+  where
+    unless_ended : Bool → Reader (List PlainBind)
+    unless_ended true = give []
+    unless_ended false = list_of bind next_bind
+
+-- a register, then `(`, its binds and `;`
+unfoldable pub target : Reader Target
+target = do
+  register ← name
+  _ ← mark Open
+  bound ← binds
+  _ ← mark Semicolon
+  give (record { register = register; binds = bound })
+
+-- a resource, `=` and a sum
+unfoldable pub amount : Reader PlainAmount
+amount = do
+  resource ← name
+  _ ← mark Equal
+  terms ← sum
+  give (record { resource = resource; sum = terms })
+
+-- one more amount
+unfoldable pub next_amount : Reader (Option PlainAmount)
+next_amount = after_comma amount
+
+-- one amount, and more behind commas
+unfoldable pub amounts : Reader (List PlainAmount)
+amounts = list_of amount next_amount
+
+-- receipt, expense, turn: a target, amounts and `)`
+unfoldable pub make : Verb → Reader PlainAct
+make verb = do
+  to ← target
+  sums ← amounts
+  _ ← mark Close
+  give (Make verb to sums)
+
+-- fifo, average: a target, the amount wanted, the resource of the cost and `)`
+unfoldable pub write_off : Bool → Reader PlainAct
+write_off fifo = do
+  to ← target
+  wanted ← amount
+  _ ← mark Comma
+  cost ← name
+  _ ← mark Close
+  give (WriteOff fifo to wanted cost)
+
+-- require: a target, a resource and `)`, then `>=`, a sum, `code` and a code
+unfoldable pub require : Reader PlainAct
+require = do
+  to ← target
+  resource ← name
+  _ ← mark Close
+  _ ← mark AtLeast
+  least ← sum
+  _ ← word (codes "code")
+  text ← quoted
+  give (Require to resource least text)
+
+-- control: a register and a resource
+unfoldable pub control : Reader PlainAct
+control = do
+  register ← name
+  resource ← name
+  give (Control register resource)
+
+-- one more code
+unfoldable pub next_code : Reader (Option PlainCode)
+next_code = after_comma code
+
+-- none before `)`, or one and more behind commas
+unfoldable pub extra_codes : Reader (List PlainCode)
+extra_codes = λ tokens. unless_closed (is_mark_next Close tokens) tokens
+  where
+    unless_closed : Bool → Reader (List PlainCode)
+    unless_closed true = give []
+    unless_closed false = list_of code next_code
+
+-- an account, then its extras between `(` and `)`
+unfoldable pub account_side : Reader (Option PlainSide)
+account_side = do
+  account ← code
+  _ ← mark Open
+  extras ← extra_codes
+  _ ← mark Close
+  give (Some (record { account = account; extras = extras }))
+
+-- `none`, or an account
+unfoldable pub side : Reader (Option PlainSide)
+side = do
+  absent ← takes (is_word_next (codes "none"))
+  none_or_account absent
+  where
+    none_or_account : Bool → Reader (Option PlainSide)
+    none_or_account true = give None
+    none_or_account false = account_side
+
+-- `debit` and a side, a comma, `credit` and a side
+unfoldable pub sides : Reader PlainSides
+sides = do
+  _ ← word (codes "debit")
+  debit ← side
+  _ ← mark Comma
+  _ ← word (codes "credit")
+  credit ← side
+  give (record { debit = debit; credit = credit })
+
+-- entry: a ledger, then between `(` and `)` the sides, `;` and a sum
+unfoldable pub entry : Reader PlainAct
+entry = do
+  ledger ← name
+  _ ← mark Open
+  both ← sides
+  _ ← mark Semicolon
+  amount ← sum
+  _ ← mark Close
+  give (Entry ledger both amount)
+
+-- what a verb opens
+unfoldable pub opening_of : Spelling → Option Opening
+opening_of spelling =
+    if is_spelt (codes "receipt") spelling then Some (Makes Receipt)
+    else if is_spelt (codes "expense") spelling then Some (Makes Expense)
+    else if is_spelt (codes "turn") spelling then Some (Makes Turn)
+    else if is_spelt (codes "fifo") spelling then Some (WritesOff true)
+    else if is_spelt (codes "average") spelling then Some (WritesOff false)
+    else if is_spelt (codes "require") spelling then Some Requires
+    else if is_spelt (codes "control") spelling then Some Controls
+    else if is_spelt (codes "entry") spelling then Some Enters
+    else None
+
+-- what the verb in front opens
+abbrev pub front_opening : List Lexeme → Option Opening
+front_opening tokens = option_and_then opening_of (front word_of tokens)
+
+-- what stands behind the verb
+unfoldable pub act_of : Opening → Reader PlainAct
+act_of (Makes verb) = make verb
+act_of (WritesOff fifo) = write_off fifo
+act_of Requires = require
+act_of Controls = control
+act_of Enters = entry
+
+-- the verb
+unfoldable pub verb : Reader Opening
+verb = λ tokens. verb_by (front_opening tokens) tokens
+  where
+    verb_by : Option Opening → Reader Opening
+    verb_by (Some opening) tokens = give opening (drop 1 tokens)
+    verb_by None tokens = stuck tokens
+
+-- a verb and what stands behind it
+unfoldable pub act : Reader PlainAct
+act = do
+  opening ← verb
+  act_of opening
