@@ -1,5 +1,8 @@
 -- Charts of accounts: the way to the parents, and the order of codes.
-use Rattle.std.proofs.Common.{◌≡◌, ℕ, suc, ◌+◌, ◌-◌, ◌<◌, ◌≤◌, Bool, true, false, cond, ◌||◌, List, [], ◌∷◌, map, length, Option, Some, None, Result, Ok, IfSome, codes, refl, ap, ◌∙◌, sym, subst, arith, Ordering, Less, Equal, Greater, nat_cmp}
+use Rattle.std.proofs.Common.{◌≡◌, ℕ, suc, ◌+◌, ◌≤◌, Bool, true, false, cond, ◌||◌, List}
+use Rattle.std.proofs.Common.{[], ◌∷◌, map, length, Option, Some, None, Result, Ok, IfSome, codes}
+use Rattle.std.proofs.Common.{refl, ap, ◌∙◌, sym, subst, arith, Ordering, Less, Equal, Greater}
+use Rattle.std.proofs.Common.{nat_cmp}
 use Rattle.std.specs.Prelude.{is_some}
 use Rattle.std.specs.Cmp.Lexicographic.{slice_cmp}
 use Rattle.std.specs.Ordering.{match_ordering, ordering_reverse}
@@ -19,7 +22,9 @@ use Rattle.cfg_model.specs.Limits.{account_limit, extra_limit}
 use Rattle.cfg_model.specs.Walk.{at_most, of_shape, list_of}
 use Rattle.cfg_model.specs.Places.{account_at}
 use Rattle.cfg_model.specs.Resolving.{AreAscending}
-use Rattle.cfg_model.specs.Accounts.{leads_to, parent_of, put_account, by_code, account_of, each_checked, few_extras, each_once, parent_known, has_known_parent, not_circular, has_parents_off, read_accounts}
+use Rattle.cfg_model.specs.Accounts.{put_account, by_code, account_of}
+use Rattle.cfg_model.specs.Accounts.{each_checked, few_extras, each_once, parent_known}
+use Rattle.cfg_model.specs.Accounts.{has_known_parent, not_circular, has_parents_off, read_accounts}
 use Rattle.cfg_model.specs.AccountMaps.{Keyed, AreKeyed, values_of}
 use Rattle.cfg_model.proofs.Steps.{bind-Ok, same_Ok, unless-Ok}
 use Rattle.cfg_model.proofs.ListLemmas.{at_most-Ok}

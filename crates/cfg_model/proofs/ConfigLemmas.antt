@@ -10,9 +10,12 @@ use Rattle.cfg_model.specs.declared.config.Config.{Config}
 use Rattle.cfg_model.specs.declared.register.Register.{Register}
 use Rattle.cfg_model.specs.declared.ledger.Chart.{Chart}
 use Rattle.cfg_model.specs.Words.{group_keys, ledger_keys}
-use Rattle.cfg_model.specs.Limits.{register_limit, ledger_limit, document_limit, sequence_limit, clerk_limit, IsWithinLimits, IsRegisterWithinLimits, IsChartWithinLimits, IsKindWithinLimits}
+use Rattle.cfg_model.specs.Limits.{register_limit, ledger_limit, document_limit, sequence_limit}
+use Rattle.cfg_model.specs.Limits.{clerk_limit, IsWithinLimits, IsRegisterWithinLimits}
+use Rattle.cfg_model.specs.Limits.{IsChartWithinLimits, IsKindWithinLimits}
 use Rattle.cfg_model.specs.Walk.{entry_keys, known_keys, read_group}
-use Rattle.cfg_model.specs.Resolving.{HasNamesInOrder, IsInOrder, HasAccountsInOrder, HasParents, HasNames, NamesResolve}
+use Rattle.cfg_model.specs.Resolving.{HasNamesInOrder, IsInOrder, HasAccountsInOrder, HasParents}
+use Rattle.cfg_model.specs.Resolving.{HasNames, NamesResolve}
 use Rattle.cfg_model.specs.Registers.{read_register, read_split}
 use Rattle.cfg_model.specs.Accounts.{read_accounts}
 use Rattle.cfg_model.specs.Ledgers.{read_ledger, read_scale}
@@ -22,7 +25,8 @@ use Rattle.cfg_model.specs.Clerks.{read_clerk}
 use Rattle.cfg_model.specs.Reading.{config_of}
 use Rattle.cfg_model.proofs.Steps.{bind-Ok, same_Ok}
 use Rattle.cfg_model.proofs.ListLemmas.{read_group-few, read_group-all}
-use Rattle.cfg_model.proofs.RegisterLemmas.{read_register-within, read_kind-within, read_scale-small}
+use Rattle.cfg_model.proofs.RegisterLemmas.{read_register-within, read_kind-within}
+use Rattle.cfg_model.proofs.RegisterLemmas.{read_scale-small}
 use Rattle.cfg_model.proofs.SequenceLemmas.{read_sequence-names}
 use Rattle.cfg_model.proofs.ChartLemmas.{AreAccounts, read_accounts-hold}
 

@@ -1,14 +1,17 @@
 -- What holds of each element of a list that was read, and how many there are.
-use Rattle.std.proofs.Common.{◌≡◌, ℕ, ◌≤◌, nat_le, true, Bool, List, [], ◌∷◌, length, Option, Some, None, Result, Ok, sym, ap, subst, arith}
+use Rattle.std.proofs.Common.{◌≡◌, ℕ, ◌≤◌, nat_le, true, Bool, List, [], ◌∷◌, length, Option, Some}
+use Rattle.std.proofs.Common.{None, Result, Ok, sym, ap, subst, arith}
 use Rattle.std.specs.List.{AllByRecursion, list_all}
 use Rattle.std.proofs.lemmas.Bool.{and_parts}
 use Rattle.std.proofs.lemmas.Bool.Decides.{nat_tests}
 use Rattle.std.proofs.lemmas.Option.{same_Some}
-use Rattle.toml.specs.Data.{Data, Items, no_items, item, Members, no_members, member, get_member, as_array, as_str, as_table}
+use Rattle.toml.specs.Data.{Data, Items, no_items, item, Members, no_members, member, get_member}
+use Rattle.toml.specs.Data.{as_array, as_str, as_table}
 use Rattle.reg_base.specs.Results.{◌>>=◌, unless, some_or}
 use Rattle.cfg_model.specs.declared.fault.CfgFault.{CfgFault}
 use Rattle.cfg_model.specs.declared.fault.CfgFault.TheVariants.{Field, Count, Unknown}
-use Rattle.cfg_model.specs.Walk.{member_count, at_most, distinct, each_entry, group_entries, read_group, of_shape, each_item, text_of, text_list, all_known}
+use Rattle.cfg_model.specs.Walk.{member_count, at_most, distinct, each_entry, group_entries}
+use Rattle.cfg_model.specs.Walk.{read_group, of_shape, each_item, text_of, text_list, all_known}
 use Rattle.cfg_model.proofs.Steps.{bind-Ok, same_Ok, unless-Ok, and_then-Some, map-Some}
 
 -- a list in which none stands twice is the list

@@ -1,5 +1,8 @@
 -- The places of accounts by their codes.
-use Rattle.std.proofs.Common.{◌≡◌, ℕ, zero, suc, ◌+◌, ◌-◌, ◌<◌, ◌≤◌, nat_lt, IfSome, Bool, true, false, cond, ◌||◌, not, List, [], ◌∷◌, ◌++◌, map, length, take, drop, get_or, Option, Some, None, option_map, option_and_then, Result, Ok, Err, refl, ap, ◌∙◌, sym, subst, arith}
+use Rattle.std.proofs.Common.{◌≡◌, ℕ, zero, suc, ◌+◌, ◌-◌, ◌<◌, ◌≤◌, nat_lt, IfSome, Bool, true}
+use Rattle.std.proofs.Common.{false, cond, ◌||◌, not, List, [], ◌∷◌, ◌++◌, map, length, take, drop}
+use Rattle.std.proofs.Common.{get_or, Option, Some, None, option_map, option_and_then, Result, Ok}
+use Rattle.std.proofs.Common.{Err, refl, ap, ◌∙◌, sym, subst, arith}
 use Rattle.std.specs.Prelude.{is_some, slice_get}
 use Rattle.std.specs.Borrow.{Bor}
 use Rattle.std.specs.Option.{option_or}
@@ -18,7 +21,8 @@ use Rattle.cfg_model.specs.Walk.{distinct}
 use Rattle.cfg_model.specs.Accounts.{each_once, each_checked, has_known_parent, leads_to}
 use Rattle.cfg_model.proofs.ChartLemmas.{HasParentAmong, each_checked-all, parent-among}
 use Rattle.cfg_model.specs.Places.{account_at}
-use Rattle.cfg_model.specs.AccountMaps.{Placed, place_at, first_place, LeadsToPlaces, parent_place, has_this_code, comes_to}
+use Rattle.cfg_model.specs.AccountMaps.{Placed, place_at, first_place, LeadsToPlaces, parent_place}
+use Rattle.cfg_model.specs.AccountMaps.{has_this_code, comes_to}
 
 -- the account at the place of a code is the first one of that code
 pub account_at-place : (code : List ℕ) (xs : List Account)
@@ -127,7 +131,8 @@ LeadsToPlaces-more old new xs a leads free updates = λ code.
         → cond test (Some (length xs)) (place_at code old)
         ≡ option_or (first_place code xs) (cond test (Some (length xs)) None)
     at code true e =
-        ap (λ place. option_or place (Some (length xs))) (sym (none code ((bytes_eq-Decides a.code code).0 e)))
+        let same = (bytes_eq-Decides a.code code).0 e in
+        ap (λ place. option_or place (Some (length xs))) (sym (none code same))
     at code false e = leads code ∙ or-None (first_place code xs)
 
 -- whether the map has a code says whether it is one of the codes
@@ -164,7 +169,8 @@ each_once-at xs i a more is =
     at_drop_more (each_once seen) xs i a more
     ∙ ap (λ b. each_once seen (b ∷ behind)) (sym is)
     ∙ ap (λ codes. once seen a (each_once codes behind))
-    (sym (ap codes_of (take-next xs i a more is) ∙ map-append (λ (b : Account). b.code) (take i xs) (a ∷ [])))
+    (sym (ap codes_of (take-next xs i a more is)
+    ∙ map-append (λ (b : Account). b.code) (take i xs) (a ∷ [])))
 
 -- where its code is taken, that is the fault
 pub once-taken : (seen : List (List ℕ)) (a : Account) (rest : Result (Unit {0}) CfgFault)
@@ -188,7 +194,8 @@ LeadsToPlaces-next old new xs i a more is leads free updates =
     let long : i ≡ length (take i xs) = omega (arith, more, length-take i xs) in
     subst (LeadsToPlaces new) (sym (take-next xs i a more is))
     (LeadsToPlaces-more old new (take i xs) a leads free
-    (λ code. updates code ∙ ap (λ n. cond (bytes_eq a.code code) (Some n) (place_at code old)) long))
+    (λ code. updates code
+    ∙ ap (λ n. cond (bytes_eq a.code code) (Some n) (place_at code old)) long))
 
 -- a place whose account is another one leads to the code where the parent's place does
 pub comes_to-next : (n counter : ℕ) (accounts : List Account) (code : List ℕ) (place : ℕ)
@@ -235,7 +242,8 @@ account_at-code code (a ∷ xs) x e = at (account_at-code code xs x) (bytes_eq a
     at ih true same e = ap (λ (b : Account). bytes_eq b.code code) (sym (same_Some _ _ e)) ∙ same
     at ih false same e = ih e
 
-module _ (accounts : List Account) (known : AllByRecursion (HasParentAmong accounts) accounts) (code : List ℕ) where
+module _ (accounts : List Account) (known : AllByRecursion (HasParentAmong accounts) accounts)
+    (code : List ℕ) where
   -- the way by places is the way by codes
   pub comes_to-leads_to : (n : ℕ) (parent : Option (List ℕ))
       → IfSome parent (λ p. is_some (account_at p accounts) ≡ true)
@@ -246,7 +254,9 @@ module _ (accounts : List Account) (known : AllByRecursion (HasParentAmong accou
   comes_to-leads_to (suc n) None there = refl
   comes_to-leads_to (suc n) (Some p) there =
       at (first_place p accounts) (account_at p accounts) refl there
-      (account_at-place p accounts) (λ (a : Account) (is : IfSome a.parent (λ q. is_some (account_at q accounts) ≡ true)). comes_to-leads_to n a.parent is)
+      (account_at-place p accounts)
+      (λ (a : Account) (is : IfSome a.parent (λ q. is_some (account_at q accounts) ≡ true)).
+      comes_to-leads_to n a.parent is)
     where
       at : (place : Option ℕ) (found : Option Account) → account_at p accounts ≡ found
           → is_some found ≡ true
@@ -255,7 +265,8 @@ module _ (accounts : List Account) (known : AllByRecursion (HasParentAmong accou
           → comes_to n accounts code (parent_place accounts a)
           ≡ leads_to n accounts code a.parent)
           → comes_to (suc n) accounts code place
-          ≡ cond (bytes_eq p code) true (leads_to n accounts code (option_and_then (λ (a : Account). a.parent) found))
+          ≡ cond (bytes_eq p code) true
+          (leads_to n accounts code (option_and_then (λ (a : Account). a.parent) found))
       at None (Some b) is there same ih = absurd (cc)
       at place None is there same ih = absurd (cc)
       at (Some i) (Some b) is there same ih =
@@ -263,7 +274,8 @@ module _ (accounts : List Account) (known : AllByRecursion (HasParentAmong accou
           let parents = slice_get-all (HasParentAmong accounts) accounts i b known same in
           ap (λ found. cond (has_this_code code found) true
           (comes_to n accounts code (option_and_then (parent_place accounts) found))) same
-          ∙ ap (λ (c : List ℕ). cond (bytes_eq c code) true (comes_to n accounts code (parent_place accounts b))) own
+          ∙ ap (λ (c : List ℕ). cond (bytes_eq c code) true
+          (comes_to n accounts code (parent_place accounts b))) own
           ∙ ap (λ rest. cond (bytes_eq p code) true rest) (ih b parents)
 
 -- the parent at a place leads back where that of the account does

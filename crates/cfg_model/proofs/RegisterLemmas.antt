@@ -1,5 +1,7 @@
 -- A register, a document type and a sequence that are read keep to their limits and resolve.
-use Rattle.std.proofs.Common.{◌≡◌, ℕ, ℤ, pos, negsuc, ◌-◌, ◌≤◌, ◌&&◌, nat_le, true, false, Bool, cond, List, [], ◌∷◌, length, Option, Some, None, option_and_then, option_map, Ok, codes, subst, arith, IfSome}
+use Rattle.std.proofs.Common.{◌≡◌, ℕ, ℤ, pos, negsuc, ◌-◌, ◌≤◌, ◌&&◌, nat_le, true, false, Bool}
+use Rattle.std.proofs.Common.{cond, List, [], ◌∷◌, length, Option, Some, None, option_and_then}
+use Rattle.std.proofs.Common.{option_map, Ok, codes, subst, arith, IfSome}
 use Rattle.std.specs.List.{AllByRecursion}
 use Rattle.std.specs.Str.{bytes_eq}
 use Rattle.std.proofs.lemmas.Bool.{and_parts}
@@ -14,14 +16,18 @@ use Rattle.cfg_model.specs.declared.register.Resource.{Resource}
 use Rattle.cfg_model.specs.declared.kind.Kind.{Kind}
 use Rattle.cfg_model.specs.declared.kind.Field.{Field as DocumentField}
 use Rattle.cfg_model.specs.declared.fault.CfgFault.TheVariants.{Field}
-use Rattle.cfg_model.specs.Elements.{at_colon, name_of, scale_of, resource_of, dimension_of, field_of, field_scale_of}
-use Rattle.cfg_model.specs.Limits.{dimension_limit, resource_limit, field_limit, scale_limit, IsRegisterWithinLimits, IsKindWithinLimits}
+use Rattle.cfg_model.specs.Elements.{at_colon, name_of, scale_of, resource_of, dimension_of}
+use Rattle.cfg_model.specs.Elements.{field_of, field_scale_of}
+use Rattle.cfg_model.specs.Limits.{dimension_limit, resource_limit, field_limit, scale_limit}
+use Rattle.cfg_model.specs.Limits.{IsRegisterWithinLimits, IsKindWithinLimits}
 use Rattle.cfg_model.specs.Words.{key_path, register_keys, document_keys}
 use Rattle.cfg_model.specs.Walk.{at_most, entry_keys, of_shape, text_list}
-use Rattle.cfg_model.specs.Registers.{read_register, read_balance, read_dimensions, read_resources, read_split}
+use Rattle.cfg_model.specs.Registers.{read_register, read_balance, read_dimensions, read_resources}
+use Rattle.cfg_model.specs.Registers.{read_split}
 use Rattle.cfg_model.specs.Kinds.{read_kind, read_fields}
 use Rattle.cfg_model.specs.Ledgers.{read_scale, scale_number}
-use Rattle.cfg_model.proofs.Steps.{bind-Ok, same_Ok, unless-Ok, some_or-Ok, and_then-Some, map-Some, cond-Some}
+use Rattle.cfg_model.proofs.Steps.{bind-Ok, same_Ok, unless-Ok, some_or-Ok, and_then-Some, map-Some}
+use Rattle.cfg_model.proofs.Steps.{cond-Some}
 use Rattle.cfg_model.proofs.ListLemmas.{at_most-Ok, distinct-Ok, text_list-all}
 
 digit-small : (digit scale : ℕ)

@@ -11,7 +11,9 @@ use Rattle.cfg_model.specs.declared.fault.CfgFault.TheVariants.{Field}
 use Rattle.cfg_model.specs.Words.{sequence_keys}
 use Rattle.cfg_model.specs.Walk.{entry_keys, all_known}
 use Rattle.cfg_model.specs.Resolving.{HasNames}
-use Rattle.cfg_model.specs.Sequences.{sequence_path, read_names, read_some_names, has_kind, has_register, has_balances, is_shared, read_documents, read_affecting, all_shared, sequence_of, read_sequence}
+use Rattle.cfg_model.specs.Sequences.{sequence_path, read_names, read_some_names, has_kind}
+use Rattle.cfg_model.specs.Sequences.{has_register, has_balances, is_shared, read_documents}
+use Rattle.cfg_model.specs.Sequences.{read_affecting, all_shared, sequence_of, read_sequence}
 use Rattle.cfg_model.proofs.Steps.{bind-Ok, same_Ok, unless-Ok}
 use Rattle.cfg_model.proofs.ListLemmas.{all_known-Ok, list_all-each}
 

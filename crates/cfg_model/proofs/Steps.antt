@@ -1,5 +1,6 @@
 -- What the steps of a definition gave where the whole gave a value.
-use Rattle.std.proofs.Common.{◌≡◌, Bool, true, false, cond, Option, Some, None, option_map, option_and_then, Result, Ok, Err, IfOk, refl}
+use Rattle.std.proofs.Common.{◌≡◌, Bool, true, false, cond, Option, Some, None, option_map}
+use Rattle.std.proofs.Common.{option_and_then, Result, Ok, Err, IfOk, refl}
 use Rattle.reg_base.specs.Results.{◌>>=◌, unless, some_or, Gives}
 
 -- an answer made in two steps had a value after the first

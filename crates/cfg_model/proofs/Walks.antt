@@ -1,5 +1,6 @@
 -- What the loops of the walk keep, and the lemmas on it.
-use Rattle.std.proofs.Common.{◌≡◌, List, [], ◌∷◌, ◌++◌, Option, option_map, Result, Ok, Err, refl, ap, append_assoc, append-nil}
+use Rattle.std.proofs.Common.{◌≡◌, List, [], ◌∷◌, ◌++◌, Option, option_map, Result, Ok, Err, refl}
+use Rattle.std.proofs.Common.{ap, append_assoc, append-nil}
 use Rattle.std.proofs.Common.{ℕ, length, arith, sym}
 use Rattle.toml.specs.View.{members_view}
 use Rattle.toml.proofs.Views.{Entry}

@@ -1,6 +1,8 @@
 -- The definitions computed on small files, from the table that the reader of TOML gives of each.
-use Rattle.std.proofs.Common.{◌≡◌, ℕ, Bool, List, [], ◌∷◌, Option, Some, None, codes, true, false, Ok, Err, pos, negsuc, refl}
-use Rattle.toml.specs.Data.{Data, string, integer, boolean, array, table, Items, no_items, item, Members, no_members, member}
+use Rattle.std.proofs.Common.{◌≡◌, ℕ, Bool, List, [], ◌∷◌, Option, Some, None, codes, true, false}
+use Rattle.std.proofs.Common.{Ok, Err, pos, negsuc, refl}
+use Rattle.toml.specs.Data.{Data, string, integer, boolean, array, table, Items, no_items, item}
+use Rattle.toml.specs.Data.{Members, no_members, member}
 use Rattle.reg_base.specs.Codes.{is_name, is_code}
 use Rattle.reg_base.specs.declared.records.Side.{Side}
 use Rattle.cfg_model.specs.declared.ledger.Chart.{Chart}
@@ -10,15 +12,21 @@ use Rattle.cfg_model.specs.declared.account.Account.{Account}
 use Rattle.cfg_model.specs.declared.account.Nature.TheVariants.{Active}
 use Rattle.cfg_model.specs.declared.clerk.Right.TheVariants.{Manual, Read}
 use Rattle.cfg_model.specs.declared.fault.CfgFault.TheVariants.{Field, Twice, Unknown, Count}
-use Rattle.cfg_model.specs.declared.fault.EntryFault.TheVariants.{UnknownAccount, GroupAccount, ExtraCount, Sides}
-use Rattle.cfg_model.specs.Elements.{dimension_of, lot_of, scale_of, resource_of, field_of, field_scale_of, account_name_of, nature_of, right_of, right_word}
+use Rattle.cfg_model.specs.declared.fault.EntryFault.TheVariants.{UnknownAccount, GroupAccount}
+use Rattle.cfg_model.specs.declared.fault.EntryFault.TheVariants.{ExtraCount, Sides}
+use Rattle.cfg_model.specs.Elements.{dimension_of, lot_of, scale_of, resource_of, field_of}
+use Rattle.cfg_model.specs.Elements.{field_scale_of, account_name_of, nature_of, right_of}
+use Rattle.cfg_model.specs.Elements.{right_word}
 use Rattle.cfg_model.specs.FaultTexts.{fault_text}
 use Rattle.cfg_model.specs.Walk.{group_entries, each_entry, read_group, entry_keys, all_known}
-use Rattle.cfg_model.specs.Registers.{read_register, balance_of, read_balance, read_dimensions, read_resources, read_split}
+use Rattle.cfg_model.specs.Registers.{read_register, balance_of, read_balance, read_dimensions}
+use Rattle.cfg_model.specs.Registers.{read_resources, read_split}
 use Rattle.cfg_model.specs.Ledgers.{read_ledger, read_scale, scale_number}
-use Rattle.cfg_model.specs.Accounts.{read_accounts, account_of, account_of_keys, each_checked, each_once, parent_known, leads_to, agrees_in_off}
+use Rattle.cfg_model.specs.Accounts.{read_accounts, account_of, account_of_keys, each_checked}
+use Rattle.cfg_model.specs.Accounts.{each_once, parent_known, leads_to, agrees_in_off}
 use Rattle.cfg_model.specs.Kinds.{read_kind, read_fields}
-use Rattle.cfg_model.specs.Sequences.{read_sequence, sequence_of, read_names, read_some_names, read_documents, read_affecting, all_shared}
+use Rattle.cfg_model.specs.Sequences.{read_sequence, sequence_of, read_names, read_some_names}
+use Rattle.cfg_model.specs.Sequences.{read_documents, read_affecting, all_shared}
 use Rattle.cfg_model.specs.Clerks.{read_clerk, read_rights}
 use Rattle.cfg_model.specs.Places.{account_at}
 use Rattle.cfg_model.specs.Entries.{entry_check}

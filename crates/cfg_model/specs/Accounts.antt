@@ -1,5 +1,7 @@
 -- The chart of accounts that a list of tables holds, or its first fault.
-use Rattle.std.specs.Prelude.{ℕ, zero, suc, codes, not, Bool, true, false, List, [], ◌∷◌, ◌++◌, length, fold, Option, Some, None, option_map, option_and_then, is_some, Result, Ok, if◌then◌else◌}
+use Rattle.std.specs.Prelude.{ℕ, zero, suc, codes, not, Bool, true, false, List, [], ◌∷◌, ◌++◌}
+use Rattle.std.specs.Prelude.{length, fold, Option, Some, None, option_map, option_and_then}
+use Rattle.std.specs.Prelude.{is_some, Result, Ok, if◌then◌else◌}
 use Rattle.std.specs.Bool.{beq}
 use Rattle.std.specs.Cmp.Lexicographic.{slice_cmp}
 use Rattle.std.specs.Ordering.{nat_cmp, match_ordering}

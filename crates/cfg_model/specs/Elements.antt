@@ -1,5 +1,7 @@
 -- What the texts in a configuration spell: dimensions, resources, fields, names, rights, codes.
-use Rattle.std.specs.Prelude.{ℕ, codes, ◌-◌, ◌==◌, ◌&&◌, nat_le, nat_lt, true, false, List, [], ◌∷◌, length, Bool, Option, Some, None, option_map, option_and_then, if◌then◌else◌}
+use Rattle.std.specs.Prelude.{ℕ, codes, ◌-◌, ◌==◌, ◌&&◌, nat_le, nat_lt, true, false, List, [], ◌∷◌}
+use Rattle.std.specs.Prelude.{length, Bool, Option, Some, None, option_map, option_and_then}
+use Rattle.std.specs.Prelude.{if◌then◌else◌}
 use Rattle.std.specs.List.{position_or_len, before_first, after_first, list_all}
 use Rattle.std.specs.Str.{bytes_eq}
 use Rattle.reg_base.specs.Codes.{is_name, is_code}

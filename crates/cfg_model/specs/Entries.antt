@@ -1,5 +1,6 @@
 -- Why a chart of accounts refuses an entry.
-use Rattle.std.specs.Prelude.{ℕ, ◌==◌, ◌&&◌, not, true, false, Bool, List, length, Option, Some, None, is_some, Result}
+use Rattle.std.specs.Prelude.{ℕ, ◌==◌, ◌&&◌, not, true, false, Bool, List, length, Option, Some}
+use Rattle.std.specs.Prelude.{None, is_some, Result}
 use Rattle.std.specs.Bool.{beq}
 use Rattle.std.specs.List.{list_any}
 use Rattle.std.specs.Str.{bytes_eq}
@@ -8,7 +9,8 @@ use Rattle.reg_base.specs.declared.records.Side.{Side}
 use Rattle.cfg_model.specs.declared.ledger.Chart.{Chart}
 use Rattle.cfg_model.specs.declared.account.Account.{Account}
 use Rattle.cfg_model.specs.declared.fault.EntryFault.{EntryFault}
-use Rattle.cfg_model.specs.declared.fault.EntryFault.TheVariants.{UnknownAccount, GroupAccount, ExtraCount, Sides}
+use Rattle.cfg_model.specs.declared.fault.EntryFault.TheVariants.{UnknownAccount, GroupAccount}
+use Rattle.cfg_model.specs.declared.fault.EntryFault.TheVariants.{ExtraCount, Sides}
 use Rattle.cfg_model.specs.Places.{account_at}
 
 -- what a test says of a side, where there is one

@@ -2,7 +2,8 @@
 use Rattle.std.specs.Prelude.{ℕ, codes, List, ◌++◌}
 use Rattle.std.specs.Fmt.{decimal}
 use Rattle.cfg_model.specs.declared.fault.CfgFault.{CfgFault}
-use Rattle.cfg_model.specs.declared.fault.CfgFault.TheVariants.{NotToml, Field, Twice, Unknown, Count, Memory}
+use Rattle.cfg_model.specs.declared.fault.CfgFault.TheVariants.{NotToml, Field, Twice, Unknown}
+use Rattle.cfg_model.specs.declared.fault.CfgFault.TheVariants.{Count, Memory}
 
 -- as `5 Count register 33`
 abbrev pub count_text : List ℕ → ℕ → List ℕ

@@ -1,5 +1,6 @@
 -- The ledger that an entry holds, or its first fault.
-use Rattle.std.specs.Prelude.{ℕ, ℤ, pos, negsuc, codes, nat_le, List, Option, Some, None, option_and_then, Result, Ok, if◌then◌else◌}
+use Rattle.std.specs.Prelude.{ℕ, ℤ, pos, negsuc, codes, nat_le, List, Option, Some, None}
+use Rattle.std.specs.Prelude.{option_and_then, Result, Ok, if◌then◌else◌}
 use Rattle.toml.specs.Data.{Data, Members, as_integer}
 use Rattle.reg_base.specs.Results.{◌>>=◌, some_or}
 use Rattle.cfg_model.specs.declared.register.Register.{Register}

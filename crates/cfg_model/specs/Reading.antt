@@ -8,7 +8,8 @@ use Rattle.cfg_model.specs.declared.config.Config.{Config}
 use Rattle.cfg_model.specs.declared.fault.CfgFault.{CfgFault}
 use Rattle.cfg_model.specs.declared.fault.CfgFault.TheVariants.{NotToml}
 use Rattle.cfg_model.specs.Words.{group_keys}
-use Rattle.cfg_model.specs.Limits.{register_limit, ledger_limit, document_limit, sequence_limit, clerk_limit}
+use Rattle.cfg_model.specs.Limits.{register_limit, ledger_limit, document_limit, sequence_limit}
+use Rattle.cfg_model.specs.Limits.{clerk_limit}
 use Rattle.cfg_model.specs.Walk.{known_keys, read_group}
 use Rattle.cfg_model.specs.Registers.{read_register}
 use Rattle.cfg_model.specs.Ledgers.{read_ledger}

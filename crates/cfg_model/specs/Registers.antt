@@ -1,5 +1,6 @@
 -- The register that an entry holds, or its first fault.
-use Rattle.std.specs.Prelude.{ℕ, codes, nat_le, true, false, Bool, List, [], length, Option, Some, None, Result, Ok, if◌then◌else◌}
+use Rattle.std.specs.Prelude.{ℕ, codes, nat_le, true, false, Bool, List, [], length, Option, Some}
+use Rattle.std.specs.Prelude.{None, Result, Ok, if◌then◌else◌}
 use Rattle.std.specs.Str.{bytes_eq}
 use Rattle.toml.specs.Data.{Data, Members, get_member, as_bool}
 use Rattle.reg_base.specs.Results.{◌>>=◌, unless, some_or}
@@ -11,7 +12,8 @@ use Rattle.cfg_model.specs.declared.fault.CfgFault.TheVariants.{Field}
 use Rattle.cfg_model.specs.Words.{key_path, register_keys}
 use Rattle.cfg_model.specs.Limits.{dimension_limit, resource_limit}
 use Rattle.cfg_model.specs.Elements.{dimension_of, resource_of}
-use Rattle.cfg_model.specs.Walk.{entry_keys, at_most, of_shape, shape_or, text_of, text_list, distinct}
+use Rattle.cfg_model.specs.Walk.{entry_keys, at_most, of_shape, shape_or, text_of, text_list}
+use Rattle.cfg_model.specs.Walk.{distinct}
 
 -- whether the word of a register's kind is that of balances or that of turnovers
 unfoldable pub balance_of : List ℕ → Option Bool

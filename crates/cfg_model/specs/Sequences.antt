@@ -1,5 +1,6 @@
 -- The sequence that an entry holds, or its first fault.
-use Rattle.std.specs.Prelude.{ℕ, codes, nat_le, ◌&&◌, not, false, Bool, List, [], length, map, is_none, Result, Ok}
+use Rattle.std.specs.Prelude.{ℕ, codes, nat_le, ◌&&◌, not, false, Bool, List, [], length, map}
+use Rattle.std.specs.Prelude.{is_none, Result, Ok}
 use Rattle.std.specs.List.{list_any, list_all}
 use Rattle.std.specs.Str.{bytes_eq}
 use Rattle.toml.specs.Data.{Data, Members}

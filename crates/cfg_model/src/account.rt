@@ -1,10 +1,12 @@
 //! An account of a ledger, and the table that holds it.
-ghost use Rattle.std.specs.Prelude.{◌≡◌, codes, [], None as Absent, option_map, Some as There, ℕ, IfOk};
+ghost use Rattle.std.specs.Prelude.{◌≡◌, codes, [], None as Absent, option_map, Some as There, ℕ};
+ghost use Rattle.std.specs.Prelude.{IfOk};
 ghost use Rattle.std.specs.List.{list_all};
 ghost use Rattle.toml.specs.Data.{get_member};
 ghost use Rattle.toml.specs.View.{view, table_view};
 ghost use Rattle.cfg_model.specs.Accounts.{account_of, account_of_keys, parent_code};
-ghost use Rattle.cfg_model.specs.Elements.{code_of, name_of, account_name_of, nature_of, is_printable as printable};
+ghost use Rattle.cfg_model.specs.Elements.{code_of, name_of, account_name_of, nature_of};
+ghost use Rattle.cfg_model.specs.Elements.{is_printable as printable};
 ghost use Rattle.cfg_model.specs.Walk.{of_shape, shape_or, text_of, text_list};
 
 use crate::element::elements_of;

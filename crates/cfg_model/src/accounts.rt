@@ -1,5 +1,7 @@
 //! The chart of accounts of a ledger: its list of tables, and what has to hold of all of them.
-ghost use Rattle.std.specs.Prelude.{◌≡◌, codes, List, ℕ, [], length, map, option_map, option_and_then, slice_get, IfOk, Ok as Accepted, Some as There, if◌then◌else◌};
+ghost use Rattle.std.specs.Prelude.{◌≡◌, codes, List, ℕ, [], length, map, option_map};
+ghost use Rattle.std.specs.Prelude.{option_and_then, slice_get, IfOk, Ok as Accepted};
+ghost use Rattle.std.specs.Prelude.{Some as There, if◌then◌else◌};
 ghost use Rattle.cfg_model.specs.declared.account.Account.{Account};
 ghost use Rattle.std.specs.Str.{bytes_eq};
 ghost use Rattle.std.specs.List.{list_any};
@@ -12,7 +14,8 @@ ghost use Rattle.cfg_model.specs.Walk.{of_shape, list_of, each_item};
 ghost use Rattle.cfg_model.specs.Accounts.{read_accounts, account_of, each_checked, each_once};
 ghost use Rattle.cfg_model.specs.Accounts.{parent_known, not_circular};
 ghost use Rattle.cfg_model.specs.Accounts.{agrees_in_off as agrees, by_code as by_code_of};
-ghost use Rattle.cfg_model.specs.Accounts.{few_extras as few_extras_at, has_known_parent, has_parents_off};
+ghost use Rattle.cfg_model.specs.Accounts.{few_extras as few_extras_at, has_known_parent};
+ghost use Rattle.cfg_model.specs.Accounts.{has_parents_off};
 ghost use Rattle.cfg_model.specs.Accounts.{put_account};
 ghost use Rattle.cfg_model.specs.AccountMaps.{AreKeyed, values_of, place_at, LeadsToPlaces};
 ghost use Rattle.cfg_model.specs.AccountMaps.{parent_place, has_this_code, comes_to};

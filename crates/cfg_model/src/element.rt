@@ -1,5 +1,6 @@
 //! Lists of texts, each of which spells an element.
-ghost use Rattle.std.specs.Prelude.{◌≡◌, ℕ, Bool, true, not, List, [], Option, option_map, IfOk, if◌then◌else◌};
+ghost use Rattle.std.specs.Prelude.{◌≡◌, ℕ, Bool, true, not, List, [], Option, option_map, IfOk};
+ghost use Rattle.std.specs.Prelude.{if◌then◌else◌};
 ghost use Rattle.std.specs.Str.{bytes_eq};
 ghost use Rattle.toml.specs.View.{array_view, table_view, view};
 ghost use Rattle.reg_base.specs.Results.{Gives, GivesAs, some_or};

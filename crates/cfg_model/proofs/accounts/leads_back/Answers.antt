@@ -1,4 +1,4 @@
-use Rattle.std.proofs.Common.{◌≡◌, ◌-◌, ◌+◌, length, option_and_then, sym, ap, ◌∙◌}
+use Rattle.std.proofs.Common.{◌-◌, ◌+◌, length, option_and_then, sym, ap, ◌∙◌}
 use Rattle.std.specs.Prelude.{slice_get}
 use Rattle.cfg_model.specs.AccountMaps.{comes_to}
 use Rattle.cfg_model.proofs.PlaceLemmas.{comes_to-next, parent-at}

@@ -1,4 +1,5 @@
-use Rattle.std.proofs.Common.{◌≡◌, ◌+◌, Bool, not, Result, Err, length, drop, option_and_then, sym, ap, ◌∙◌}
+use Rattle.std.proofs.Common.{◌+◌, Bool, not, Result, Err, length, drop, option_and_then, sym}
+use Rattle.std.proofs.Common.{ap, ◌∙◌}
 use Rattle.std.specs.Prelude.{slice_get}
 use Rattle.reg_base.specs.Results.{◌>>=◌, unless}
 use Rattle.cfg_model.specs.declared.fault.CfgFault.{CfgFault}

@@ -6,4 +6,5 @@ use Rattle.cfg_model.proofs.accounts.put_place.Goals as goal
 pub returns : goal.returns
 returns c = λ q.
     c.in_ok-insert.ensures.updates.0 q
-    ∙ ap (λ same. cond same (Some c.args.place) (place_at q c.args.places.now.entries)) (is_eq-slice_cmp c.args.code q)
+    ∙ ap (λ same. cond same (Some c.args.place) (place_at q c.args.places.now.entries))
+    (is_eq-slice_cmp c.args.code q)

@@ -13,7 +13,8 @@ returns-clause-limits c =
     (λ config e. (config_of-holds _ config e).within)
 
 pub returns-clause-in_order : goal.returns-clause-in_order
-returns-clause-in_order c = in_order-from c.config_of.result _ c.config_of.ensures.read c.config_of.ensures.in_order
+returns-clause-in_order c =
+    in_order-from c.config_of.result _ c.config_of.ensures.read c.config_of.ensures.in_order
 
 pub returns-clause-resolves : goal.returns-clause-resolves
 returns-clause-resolves c =
