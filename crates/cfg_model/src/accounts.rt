@@ -1,26 +1,22 @@
 //! The chart of accounts of a ledger: its list of tables, and what has to hold of all of them.
-ghost use Rattle.std.specs.Prelude.{◌≡◌, codes, List, ℕ, [], length, map, option_map};
-ghost use Rattle.std.specs.Prelude.{option_and_then, slice_get, IfOk, Ok as Accepted};
+ghost use Rattle.std.specs.Prelude.{◌≡◌, codes, List, ℕ, [], map, option_map, IfOk};
 ghost use Rattle.std.specs.Prelude.{Some as There, if◌then◌else◌};
 ghost use Rattle.cfg_model.specs.declared.account.Account.{Account};
 ghost use Rattle.std.specs.Str.{bytes_eq};
-ghost use Rattle.std.specs.List.{list_any};
-ghost use Rattle.toml.specs.View.{view, array_view, table_view};
+ghost use Rattle.toml.specs.View.{array_view, table_view};
 ghost use Rattle.reg_base.specs.Results.{Gives, GivesAs, some_or};
 ghost use Rattle.cfg_model.specs.declared.fault.CfgFault.TheVariants.{Memory, Field};
 ghost use Rattle.cfg_model.specs.Places.{account_at as at_code};
 ghost use Rattle.cfg_model.specs.Words.{is_one_of, key_path};
 ghost use Rattle.cfg_model.specs.Walk.{of_shape, list_of, each_item};
 ghost use Rattle.cfg_model.specs.Accounts.{read_accounts, account_of, each_checked, each_once};
-ghost use Rattle.cfg_model.specs.Accounts.{parent_known, not_circular};
-ghost use Rattle.cfg_model.specs.Accounts.{agrees_in_off as agrees, by_code as by_code_of};
-ghost use Rattle.cfg_model.specs.Accounts.{few_extras as few_extras_at, has_known_parent};
-ghost use Rattle.cfg_model.specs.Accounts.{has_parents_off};
-ghost use Rattle.cfg_model.specs.Accounts.{put_account};
+ghost use Rattle.cfg_model.specs.Accounts.{parent_known, has_known_parent, has_parents_off};
+ghost use Rattle.cfg_model.specs.Accounts.{few_extras as few_extras_at, agrees_in_off as agrees};
+ghost use Rattle.cfg_model.specs.Accounts.{put_account, by_code as by_code_of};
 ghost use Rattle.cfg_model.specs.AccountMaps.{AreKeyed, values_of, place_at, LeadsToPlaces};
-ghost use Rattle.cfg_model.specs.AccountMaps.{parent_place, has_this_code, comes_to};
 
 use crate::element::distinct;
+use crate::parents::none_circular;
 use crate::walk::{Entry, twice, unknown};
 use crate::{Account, CfgFault};
 use reg_base::{Code, List};
@@ -123,7 +119,8 @@ fn has_code(places: &BTreeMap<Code, usize>, code: &Code) -> bool
     place_of(places, code).is_some()
 }
 
-fn place_of(places: &BTreeMap<Code, usize>, code: &Code) -> Option<usize>
+/// The place that the map has under a code.
+pub(crate) fn place_of(places: &BTreeMap<Code, usize>, code: &Code) -> Option<usize>
     ensures { result ≡ place_at code.now places.now.entries }
 {
     places.get(code).copied()
@@ -182,92 +179,6 @@ fn check_parent(
         return Err(unknown(alloc, code.as_str()));
     }
     Ok(())
-}
-
-/// Refuses an account whose parents lead back to it.
-#[tactic(auto, unfolding(crate::specs::Accounts::each_checked))]
-fn none_circular(
-    alloc: Global,
-    accounts: &[Account],
-    places: &BTreeMap<Code, usize>,
-) -> Result<(), CfgFault>
-    requires places { LeadsToPlaces places.now.entries accounts.now }
-    requires known { each_checked (has_known_parent accounts.now) accounts.now ≡ Accepted tt }
-    ensures { Gives Memory result (each_checked (not_circular accounts.now) accounts.now) }
-{
-    let parents = parents_of(alloc, accounts, places)?;
-    let parents = parents.as_slice();
-    'accounts: for (index, account) in accounts.iter().enumerate() {
-        if leads_back(accounts, parents, account, parent_at(parents, index)) {
-            return Err(twice(alloc, account.code.as_str()));
-        }
-    }
-    Ok(())
-}
-
-/// The place of each account's parent.
-fn parents_of(
-    alloc: Global,
-    accounts: &[Account],
-    places: &BTreeMap<Code, usize>,
-) -> Result<List<Option<usize>>, AllocError>
-    requires { LeadsToPlaces places.now.entries accounts.now }
-    ensures { IfOk result (λ parents. parents ≡ map (parent_place accounts.now) accounts.now) }
-{
-    let mut parents = List::new(alloc);
-    'accounts: for account in accounts {
-        parents.push(parent_of(places, account))?;
-    }
-    Ok(parents)
-}
-
-/// The place of the parent of an account.
-fn parent_of(places: &BTreeMap<Code, usize>, account: &Account) -> Option<usize>
-    ensures { (accounts : List Account) → LeadsToPlaces places.now.entries accounts
-        → result ≡ parent_place accounts account.now }
-{
-    let code = account.parent?;
-    place_of(places, &code)
-}
-
-/// Whether the way from a place to that of the parent comes to the account.
-#[tactic(auto, unfolding(crate::specs::AccountMaps::comes_to))]
-fn leads_back(
-    accounts: &[Account],
-    parents: &[Option<usize>],
-    account: &Account,
-    parent: Option<usize>,
-) -> bool
-    requires { parents.now ≡ map (parent_place accounts.now) accounts.now }
-    ensures { let steps = length accounts.now in
-        result ≡ comes_to steps accounts.now account.now.code parent }
-{
-    let mut next = parent;
-    'steps: for _ in 0..accounts.len() {
-        let Some(place) = next else {
-            return false;
-        };
-        if has_code_at(accounts, place, &account.code) {
-            return true;
-        }
-        next = parent_at(parents, place);
-    }
-    false
-}
-
-fn has_code_at(accounts: &[Account], place: usize, code: &Code) -> bool
-    ensures { result ≡ has_this_code code.now (slice_get accounts.now place) }
-{
-    match accounts.get(place) {
-        Some(account) => account.code == *code,
-        None => false,
-    }
-}
-
-fn parent_at(parents: &[Option<usize>], place: usize) -> Option<usize>
-    ensures { result ≡ option_and_then (λ parent. parent) (slice_get parents.now place) }
-{
-    *parents.get(place)?
 }
 
 /// Refuses an account that is off-balance where its parent is not, or the other way round.

@@ -20,6 +20,7 @@ mod fault;
 mod group;
 mod kind;
 mod ledger;
+mod parents;
 mod register;
 mod sequence;
 #[cfg(test)]

@@ -1,6 +1,6 @@
 use Rattle.std.proofs.Common.{◌≡◌, map, take}
 use Rattle.cfg_model.specs.AccountMaps.{parent_place}
-use Rattle.cfg_model.proofs.accounts.parents_of.Given as goal
+use Rattle.cfg_model.proofs.parents.parents_of.Given as goal
 
 abbrev pub invariant-accounts : goal.invariant-accounts
 invariant-accounts l =

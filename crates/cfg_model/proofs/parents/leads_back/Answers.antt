@@ -2,14 +2,14 @@ use Rattle.std.proofs.Common.{◌-◌, ◌+◌, length, option_and_then, sym, ap
 use Rattle.std.specs.Prelude.{slice_get}
 use Rattle.cfg_model.specs.AccountMaps.{comes_to}
 use Rattle.cfg_model.proofs.PlaceLemmas.{comes_to-next, parent-at}
-use Rattle.cfg_model.proofs.accounts.leads_back.Goals as goal
+use Rattle.cfg_model.proofs.parents.leads_back.Goals as goal
 
 pub steps-preserved : goal.steps-preserved
 steps-preserved c =
     let accounts = c.args.accounts.now in
     let code = c.args.account.now.code in
     let place = c.in-Some.place in
-    let next = c.parent_at-next.ensures
+    let next = c.place_in-next.ensures
     ∙ ap (λ parents. option_and_then (λ parent. parent) (slice_get parents place)) c.requires
     ∙ parent-at accounts place in
     let other = sym c.has_code_at.ensures ∙ c.if-has_code_at.false in

@@ -1,6 +1,6 @@
 use Rattle.std.proofs.Common.{◌≡◌, ◌-◌, length}
 use Rattle.cfg_model.specs.AccountMaps.{comes_to}
-use Rattle.cfg_model.proofs.accounts.leads_back.Given as goal
+use Rattle.cfg_model.proofs.parents.leads_back.Given as goal
 
 abbrev pub invariant-steps : goal.invariant-steps
 invariant-steps l =

@@ -7,7 +7,7 @@ use Rattle.cfg_model.specs.declared.fault.CfgFault.TheVariants.{Twice}
 use Rattle.cfg_model.specs.Accounts.{each_checked, not_circular}
 use Rattle.cfg_model.specs.AccountMaps.{comes_to}
 use Rattle.cfg_model.proofs.PlaceLemmas.{comes_to-at, each_checked-at}
-use Rattle.cfg_model.proofs.accounts.none_circular.Goals as goal
+use Rattle.cfg_model.proofs.parents.none_circular.Goals as goal
 
 pub returns-then-leads_back : goal.returns-then-leads_back
 returns-then-leads_back c = λ told.
@@ -15,7 +15,7 @@ returns-then-leads_back c = λ told.
     let i = c.accounts.index in
     let a = c.index-accounts-index.result in
     let more = c.accounts-test.true in
-    let parent = c.parent_at.ensures
+    let parent = c.place_in.ensures
     ∙ ap (λ parents. option_and_then (λ parent. parent) (slice_get parents i))
     (c.as_slice-parents.ensures ∙ c.in_ok-parents.ensures) in
     let circle = sym c.if-leads_back.true ∙ c.leads_back.ensures
@@ -35,7 +35,7 @@ accounts-preserved c =
     let i = c.accounts.index in
     let a = c.index-accounts-index.result in
     let more = c.accounts-test.true in
-    let parent = c.parent_at.ensures
+    let parent = c.place_in.ensures
     ∙ ap (λ parents. option_and_then (λ parent. parent) (slice_get parents i))
     (c.as_slice-parents.ensures ∙ c.in_ok-parents.ensures) in
     let straight = sym c.if-leads_back.false ∙ c.leads_back.ensures
