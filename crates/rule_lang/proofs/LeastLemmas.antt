@@ -1,5 +1,5 @@
 -- Checks one after another come to what they come to together.
-use Rattle.std.proofs.Common.{◌≡◌, ℕ, Bool, true, false, cond, nat_le, List, [], ◌∷◌, ◌++◌, Option, Some, None, Result, Ok, Err, refl, ap, sym, ◌∙◌, append_assoc, append-nil, arith, length, drop, ◌≤◌, ◌<◌, ◌+◌, zero, suc, get_or, add-one, drop-cons}
+use Rattle.std.proofs.Common.{◌≡◌, ℕ, Bool, true, false, cond, nat_le, List, [], ◌∷◌, ◌++◌, Option, Some, None, Ok, Err, refl, ap, sym, ◌∙◌, append_assoc, append-nil, arith, length, drop, ◌≤◌, ◌<◌, ◌+◌, zero, suc, get_or, add-one, drop-cons}
 use Rattle.std.proofs.lemmas.Bool.Decides.{nat_tests}
 use Rattle.rule_lang.specs.Least.{why_number, lesser, Checked, both, with_first, with_one, each}
 use Rattle.rule_lang.specs.declared.fault.RuleWhy.{RuleWhy}

@@ -1,7 +1,6 @@
 -- What the acts of a statement are in a configuration and a document type.
-use Rattle.std.specs.Prelude.{ℕ, Bool, true, false, not, ◌&&◌, ◌||◌, List, [], ◌∷◌, Option, Some, None, slice_get, Result, Ok, Err, if◌then◌else◌}
+use Rattle.std.specs.Prelude.{ℕ, Bool, true, false, not, ◌&&◌, ◌||◌, List, [], ◌∷◌, Option, Some, None, Ok}
 use Rattle.std.specs.List.{list_any, list_all}
-use Rattle.std.specs.Str.{bytes_eq}
 use Rattle.reg_base.specs.Results.{◌>>=◌, unless}
 use Rattle.cfg_model.specs.declared.config.Config.{Config}
 use Rattle.cfg_model.specs.declared.kind.Kind.{Kind}
@@ -25,8 +24,7 @@ use Rattle.rule_text.specs.declared.plain.Verb.TheVariants.{Receipt, Expense, Tu
 use Rattle.rule_lang.specs.Least.{Checked, both, beside, each}
 use Rattle.rule_lang.specs.Fields.{place_of, item_at}
 use Rattle.rule_lang.specs.Terms.{code_of, sum_of}
-use Rattle.rule_lang.specs.declared.fault.RuleWhy.{RuleWhy}
-use Rattle.rule_lang.specs.declared.fault.RuleWhy.TheVariants.{UnknownName, Unbound, TwiceBound, WrongType, WrongRegister}
+use Rattle.rule_lang.specs.declared.fault.RuleWhy.TheVariants.{Unbound, TwiceBound, WrongType, WrongRegister}
 use Rattle.rule_lang.specs.declared.terms.Round.{Round}
 use Rattle.rule_lang.specs.declared.statement.Act.{Act}
 use Rattle.rule_lang.specs.declared.statement.Act.TheVariants.{Make, WriteOff, Require, Control, Entry}

@@ -1,5 +1,5 @@
 -- Names as places in the configuration, and numbers as units at a scale.
-use Rattle.std.specs.Prelude.{ℕ, Bool, true, false, ◌+◌, ◌-◌, ◌*◌, ◌^◌, ◌==◌, ◌&&◌, nat_lt, nat_le, List, Option, Some, None, position, slice_get, is_none, ℤ, pos, Result, Ok, Err, if◌then◌else◌}
+use Rattle.std.specs.Prelude.{ℕ, Bool, true, false, ◌-◌, ◌*◌, ◌^◌, ◌==◌, ◌&&◌, nat_lt, nat_le, List, Option, Some, None, position, slice_get, is_none, ℤ, pos, Ok, Err, if◌then◌else◌}
 use Rattle.std.specs.Str.{bytes_eq}
 use Rattle.reg_base.specs.Numbers.{largest_units}
 use Rattle.reg_base.specs.Results.{◌>>=◌, unless, some_or}
@@ -8,7 +8,6 @@ use Rattle.rule_text.specs.declared.token.Literal.{Literal}
 use Rattle.rule_text.specs.declared.token.Spelling.{Spelling}
 use Rattle.rule_text.specs.declared.token.Spelling.TheVariants.{Named, Other}
 use Rattle.rule_lang.specs.Least.{Checked}
-use Rattle.rule_lang.specs.declared.fault.RuleWhy.{RuleWhy}
 use Rattle.rule_lang.specs.declared.fault.RuleWhy.TheVariants.{UnknownName, WrongType}
 use Rattle.rule_lang.specs.declared.fields.FieldAt.{FieldAt}
 

@@ -1,5 +1,5 @@
 -- Checks of which the reason of the least number is told.
-use Rattle.std.specs.Prelude.{ℕ, Bool, nat_le, List, [], ◌∷◌, Option, Some, None, Result, Ok, Err, if◌then◌else◌}
+use Rattle.std.specs.Prelude.{ℕ, nat_le, List, [], ◌∷◌, Option, Some, None, Result, Ok, Err, if◌then◌else◌}
 use Rattle.rule_lang.specs.declared.fault.RuleWhy.{RuleWhy}
 use Rattle.rule_lang.specs.declared.fault.RuleWhy.TheVariants.{Syntax, UnknownName, Unbound, TwiceBound, WrongType, WrongScope, WrongRegister, TooMany, SequenceUnbound}
 

@@ -1,12 +1,8 @@
 -- The rules of a configuration: the statements of each document type, or the first fault.
-use Rattle.std.specs.Prelude.{ℕ, Bool, true, false, not, ◌+◌, ◌&&◌, ◌||◌, nat_lt, List, [], ◌∷◌, Option, Some, None, option_and_then, option_map, is_some, slice_get, Result, Ok, Err, if◌then◌else◌}
-use Rattle.std.specs.List.{list_any, list_all}
-use Rattle.std.specs.Str.{bytes_eq}
+use Rattle.std.specs.Prelude.{ℕ, Bool, true, false, not, ◌+◌, ◌||◌, nat_lt, List, [], ◌∷◌, Option, Some, None, option_and_then, option_map, is_some, slice_get, Result, Ok, Err}
 use Rattle.reg_base.specs.Results.{◌>>=◌, unless}
 use Rattle.cfg_model.specs.declared.config.Config.{Config}
 use Rattle.cfg_model.specs.declared.kind.Kind.{Kind}
-use Rattle.cfg_model.specs.declared.register.Register.{Register}
-use Rattle.cfg_model.specs.declared.sequence.Sequence.{Sequence}
 use Rattle.rule_text.specs.Sentences.{statements_of}
 use Rattle.rule_text.specs.declared.fault.TextFault.{TextFault}
 use Rattle.rule_text.specs.declared.fault.TextFault.TheVariants.{Syntax as NoSyntax, Memory as NoMemory}
@@ -21,17 +17,11 @@ use Rattle.rule_lang.specs.Acts.{act_of}
 use Rattle.rule_lang.specs.Terms.{cond_of}
 use Rattle.rule_lang.specs.declared.fault.RuleFault.{RuleFault}
 use Rattle.rule_lang.specs.declared.fault.RuleFault.TheVariants.{Wrong, Memory}
-use Rattle.rule_lang.specs.declared.fault.RuleWhy.{RuleWhy}
 use Rattle.rule_lang.specs.declared.fault.RuleWhy.TheVariants.{Syntax, WrongScope, TooMany, SequenceUnbound}
 use Rattle.rule_lang.specs.declared.costs.Costs.{Costs}
 use Rattle.rule_lang.specs.declared.terms.Round.{Round}
 use Rattle.rule_lang.specs.declared.statement.Act.{Act}
 use Rattle.rule_lang.specs.declared.statement.Act.TheVariants.{Make, WriteOff, Require, Control, Entry}
-use Rattle.rule_lang.specs.declared.statement.Bind.{Bind}
-use Rattle.rule_lang.specs.declared.statement.BindTo.{BindTo}
-use Rattle.rule_lang.specs.declared.statement.BindTo.TheVariants.{Code, Point}
-use Rattle.rule_lang.specs.declared.statement.CodeTerm.{CodeTerm}
-use Rattle.rule_lang.specs.declared.statement.CodeTerm.TheVariants.{Text, Head, Line}
 use Rattle.rule_lang.specs.declared.statement.Cond.{Cond}
 use Rattle.rule_lang.specs.declared.statement.Statement.{Statement}
 use Rattle.rule_lang.specs.Sequences.{keeps_sequences}

@@ -1,5 +1,5 @@
 -- What a sequence asks of the statements of its document types.
-use Rattle.std.specs.Prelude.{ℕ, Bool, true, false, not, ◌&&◌, ◌||◌, List, [], ◌∷◌, Option, Some, None, slice_get, if◌then◌else◌}
+use Rattle.std.specs.Prelude.{ℕ, Bool, true, false, not, ◌&&◌, ◌||◌, List, Option, Some, None, slice_get, if◌then◌else◌}
 use Rattle.std.specs.List.{list_any, list_all}
 use Rattle.std.specs.Str.{bytes_eq}
 use Rattle.cfg_model.specs.declared.config.Config.{Config}
@@ -13,7 +13,6 @@ use Rattle.rule_lang.specs.declared.statement.Act.TheVariants.{Make, WriteOff, R
 use Rattle.rule_lang.specs.declared.statement.Bind.{Bind}
 use Rattle.rule_lang.specs.declared.statement.BindTo.{BindTo}
 use Rattle.rule_lang.specs.declared.statement.BindTo.TheVariants.{Code, Point}
-use Rattle.rule_lang.specs.declared.statement.CodeTerm.{CodeTerm}
 use Rattle.rule_lang.specs.declared.statement.CodeTerm.TheVariants.{Text, Head, Line}
 
 -- whether a name is among these

@@ -1,5 +1,5 @@
 -- What terms, sums, codes and conditions of a statement are in a document type.
-use Rattle.std.specs.Prelude.{ℕ, Bool, true, false, ◌&&◌, List, [], ◌∷◌, Option, Some, None, option_and_then, is_none, is_ok, Result, Ok, Err, if◌then◌else◌}
+use Rattle.std.specs.Prelude.{ℕ, Bool, true, List, [], ◌∷◌, Option, Some, None, option_and_then, is_ok, Ok, Err, if◌then◌else◌}
 use Rattle.reg_base.specs.Results.{◌>>=◌, unless, some_or}
 use Rattle.cfg_model.specs.declared.kind.Field.{Field}
 use Rattle.cfg_model.specs.declared.kind.Kind.{Kind}
@@ -16,7 +16,6 @@ use Rattle.rule_text.specs.declared.plain.PlainTerm.{PlainTerm}
 use Rattle.rule_text.specs.declared.plain.Test.{Test}
 use Rattle.rule_lang.specs.Least.{Checked, both, each}
 use Rattle.rule_lang.specs.Fields.{fits, number_field, code_field, field_of, units_at}
-use Rattle.rule_lang.specs.declared.fault.RuleWhy.{RuleWhy}
 use Rattle.rule_lang.specs.declared.fault.RuleWhy.TheVariants.{WrongType, WrongScope}
 use Rattle.rule_lang.specs.declared.fields.FieldAt.{FieldAt}
 use Rattle.rule_lang.specs.declared.terms.Round.{Round}

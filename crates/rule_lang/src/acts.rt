@@ -8,11 +8,10 @@ ghost use Rattle.rule_lang.specs.Least.{each as each_of};
 ghost use Rattle.rule_lang.specs.Terms.{code_of as code_in};
 ghost use Rattle.rule_lang.specs.Acts.{bind_to as bind_to_in, bind_of as bind_in, amount_of as amount_in, is_bound as is_bound_in, all_bound as all_bound_in, same_name as is_same_name, none_twice as none_twice_in, suits as suits_register, make_fits as make_fits_in, make_act as make_act_of, write_off_act as write_off_act_of, require_act as require_act_of, entry_act as entry_act_of, made as made_in, make_of as make_in, lot_bound as lot_bound_in, order_fits as order_fits_in, write_off_fits as write_off_fits_in, written_off as written_off_in, write_off_of as write_off_in, require_fits as require_fits_in, required as required_in, require_of as require_in, control_of as control_in, account_of as account_in, side_of as side_in, entry_of as entry_in, act_of as act_in};
 
-use crate::RuleWhy;
 use crate::fields::place_of;
 use crate::least::{Check, Tried, beside, both, each};
 use crate::terms::{Round, code_of, sum_of};
-use crate::{Act, Bind, BindTo, CodeTerm, Place, Sum};
+use crate::{Act, Bind, BindTo, CodeTerm, Place, RuleWhy, Sum};
 use cfg_model::{Config, Dimension, Kind, Register};
 use reg_base::{Code, List, Scale};
 use rule_text::{
@@ -111,7 +110,13 @@ fn amount_of(
     let Some(resource) = register.resources.get(usize::from(place)) else {
         return Ok(Err(RuleWhy::UnknownName));
     };
-    match sum_of(alloc, kind, round, Some(resource.scale), plain.sum.as_slice())? {
+    match sum_of(
+        alloc,
+        kind,
+        round,
+        Some(resource.scale),
+        plain.sum.as_slice(),
+    )? {
         Ok(sum) => Ok(Ok((place, sum))),
         Err(why) => Ok(Err(why)),
     }
@@ -271,7 +276,16 @@ fn make_of(
     let Some(register) = config.registers.get(usize::from(place)) else {
         return Ok(Err(RuleWhy::UnknownName));
     };
-    made(alloc, kind, round, place, register, verb, target.binds.as_slice(), sums)
+    made(
+        alloc,
+        kind,
+        round,
+        place,
+        register,
+        verb,
+        target.binds.as_slice(),
+        sums,
+    )
 }
 
 /// A record of the register at the place.
@@ -408,7 +422,17 @@ fn write_off_of(
     let Some(register) = config.registers.get(usize::from(place)) else {
         return Ok(Err(RuleWhy::UnknownName));
     };
-    written_off(alloc, kind, round, place, register, fifo, target.binds.as_slice(), wanted, cost)
+    written_off(
+        alloc,
+        kind,
+        round,
+        place,
+        register,
+        fifo,
+        target.binds.as_slice(),
+        wanted,
+        cost,
+    )
 }
 
 /// A write-off from the register at the place.
@@ -500,7 +524,18 @@ fn require_of(
         return Ok(Err(RuleWhy::UnknownName));
     };
     let binds = target.binds.as_slice();
-    required(alloc, kind, round, place, register, binds, at, resource.scale, least, code)
+    required(
+        alloc,
+        kind,
+        round,
+        place,
+        register,
+        binds,
+        at,
+        resource.scale,
+        least,
+        code,
+    )
 }
 
 /// What is required of the register at the place.
@@ -685,7 +720,16 @@ pub(crate) fn act_of(
             resource,
             least,
             code,
-        } => require_of(alloc, config, kind, round, target, resource, least.as_slice(), code),
+        } => require_of(
+            alloc,
+            config,
+            kind,
+            round,
+            target,
+            resource,
+            least.as_slice(),
+            code,
+        ),
         PlainAct::Control { register, resource } => Ok(control_of(config, register, resource)),
         PlainAct::Entry {
             ledger,

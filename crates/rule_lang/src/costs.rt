@@ -60,7 +60,9 @@ pub(crate) fn costs_after(config: &Config, costs: &Costs, each: bool, act: &Act)
 {
     match act {
         Act::WriteOff {
-            register, amount, ..
+            register,
+            amount,
+            ..
         } => with_scale(costs, each, scale_at(config, *register, *amount)),
         _ => Costs {
             once: costs.once,

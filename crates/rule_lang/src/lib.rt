@@ -24,6 +24,6 @@ mod terms;
 mod tests;
 
 pub use fault::{RuleFault, RuleWhy};
-pub use rules::{Rules, STATEMENT_LIMIT};
 pub use rule_text::{Test, Verb};
+pub use rules::{Rules, STATEMENT_LIMIT};
 pub use statement::{Act, Bind, BindTo, CodeTerm, Cond, Part, Place, Statement, Sum, Term};

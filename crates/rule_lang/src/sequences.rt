@@ -41,9 +41,8 @@ fn binds_head(register: &Register, kind: &Kind, binds: &[Bind], name: &Name) -> 
 {
     let dimensions = register.dimensions.as_slice();
     let head = kind.head.as_slice();
-    binds
-        .iter()
-        .any(|b| is_dimension(dimensions, name, b.dimension) && is_head_field(head, name, &b.to))
+    binds.iter().any(|b| is_dimension(dimensions, name, b.dimension)
+        && is_head_field(head, name, &b.to))
 }
 
 /// Whether each of the names is bound to the head's field of that name.
@@ -126,13 +125,19 @@ pub(crate) fn keeps_sequences(config: &Config, kind: &Kind, act: &Act) -> bool
 {
     match act {
         Act::Make {
-            register, binds, ..
+            register,
+            binds,
+            ..
         } => sequences_fit(config, kind, *register, binds.as_slice(), false),
         Act::WriteOff {
-            register, binds, ..
+            register,
+            binds,
+            ..
         } => sequences_fit(config, kind, *register, binds.as_slice(), true),
         Act::Require {
-            register, binds, ..
+            register,
+            binds,
+            ..
         } => sequences_fit(config, kind, *register, binds.as_slice(), true),
         Act::Control { .. } => true,
         Act::Entry { .. } => true,

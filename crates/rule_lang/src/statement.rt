@@ -40,7 +40,10 @@ pub enum Act {
         code: Code,
     },
     /// Asks that a resource is not below zero after the post.
-    Control { register: u8, resource: u8 },
+    Control {
+        register: u8,
+        resource: u8,
+    },
     /// Makes an entry; a side may be absent.
     Entry {
         ledger: u8,
@@ -111,6 +114,14 @@ pub enum Part {
 /// A condition.
 #[derive(Drop)]
 pub enum Cond {
-    Sums { left: Sum, test: Test, right: Sum },
-    Codes { left: CodeTerm, equal: bool, right: CodeTerm },
+    Sums {
+        left: Sum,
+        test: Test,
+        right: Sum,
+    },
+    Codes {
+        left: CodeTerm,
+        equal: bool,
+        right: CodeTerm,
+    },
 }

@@ -3,15 +3,12 @@ ghost use Rattle.std.specs.Prelude.{◌≡◌, Option, ℕ, IfOk};
 ghost use Rattle.rule_lang.specs.Terms.{literal_at as literal_in, line_part as line_part_in, cost_part as cost_part_in, part_of as part_in, term_of as term_in, sum_of as sum_in, line_code as line_code_in, code_of as code_in, scale_of_field as scale_of_field_in, scale_of_part as scale_of_part_in, first_scale as first_scale_in, asked_scale as asked_scale_in, sums_of as sums_in, codes_of as codes_in, has_code as has_code_in, lone_code as lone_code_in, cond_of as cond_in, compared as compared_in};
 ghost use Rattle.rule_text.specs.Plain.{equality_of};
 
-use crate::RuleWhy;
 use crate::fields::{code_field, field_of, fits, number_field, units_at};
 use crate::least::{Check, Tried, both, each};
-use crate::{CodeTerm, Cond, Part, Sum, Term};
+use crate::{CodeTerm, Cond, Part, RuleWhy, Sum, Term};
 use cfg_model::{Field, Kind};
 use reg_base::Scale;
-use rule_text::{
-    Literal, PlainCode, PlainCond, PlainPart, PlainTerm, Spelling, Test, lone_field,
-};
+use rule_text::{Literal, PlainCode, PlainCond, PlainPart, PlainTerm, Spelling, Test, lone_field};
 use std::alloc::Global;
 
 /// How often a statement runs, and the scale of the latest write-off of that scope.
@@ -206,12 +203,7 @@ fn first_scale(
 
 /// The scale of the first field or `cost` in a condition, or else six decimals.
 #[tactic(auto, unfolding(crate::specs::Terms::asked_scale))]
-fn asked_scale(
-    kind: &Kind,
-    round: &Round,
-    left: &[PlainTerm],
-    right: &[PlainTerm],
-) -> Option<Scale>
+fn asked_scale(kind: &Kind, round: &Round, left: &[PlainTerm], right: &[PlainTerm]) -> Option<Scale>
     ensures { result ≡ asked_scale_in kind.now round.now left.now right.now }
 {
     let right_scale = first_scale(kind, round, Scale::new(6), right);
@@ -231,8 +223,20 @@ fn sums_of(
     ensures { IfOk result
         (λ tried. tried ≡ sums_in kind.now round.now left.now test right.now) }
 {
-    let left_sum = sum_of(alloc, kind, round, asked_scale(kind, round, left, right), left)?;
-    let right_sum = sum_of(alloc, kind, round, asked_scale(kind, round, left, right), right)?;
+    let left_sum = sum_of(
+        alloc,
+        kind,
+        round,
+        asked_scale(kind, round, left, right),
+        left,
+    )?;
+    let right_sum = sum_of(
+        alloc,
+        kind,
+        round,
+        asked_scale(kind, round, left, right),
+        right,
+    )?;
     match both(left_sum, right_sum) {
         Ok((left, right)) => Ok(Ok(Cond::Sums { left, test, right })),
         Err(why) => Ok(Err(why)),
@@ -278,12 +282,7 @@ fn lone_code(kind: &Kind, terms: &[PlainTerm]) -> Option<PlainCode>
 
 /// A condition.
 #[tactic(auto, unfolding(crate::specs::Terms::cond_of))]
-pub(crate) fn cond_of(
-    alloc: Global,
-    kind: &Kind,
-    round: &Round,
-    plain: &PlainCond,
-) -> Tried<Cond>
+pub(crate) fn cond_of(alloc: Global, kind: &Kind, round: &Round, plain: &PlainCond) -> Tried<Cond>
     ensures { IfOk result (λ tried. tried ≡ cond_in kind.now round.now plain.now) }
 {
     match plain {
@@ -306,7 +305,11 @@ fn compared(
         (equality_of test) (lone_code_in kind.now right.now) kind.now round.now
         (sums_in kind.now round.now left.now test right.now)) }
 {
-    match (lone_code(kind, left), test.equality(), lone_code(kind, right)) {
+    match (
+        lone_code(kind, left),
+        test.equality(),
+        lone_code(kind, right),
+    ) {
         (Some(left), Some(equal), Some(right)) => Ok(codes_of(kind, round, &left, equal, &right)),
         _ => sums_of(alloc, kind, round, left, test, right),
     }

@@ -5,169 +5,490 @@ use reg_base::{List, Name, Scale, Text};
 use std::alloc::Global;
 use std::process::Abort;
 
-/// A document type, the text of its rules, and what is told of it.
-const TEXTS: [(&str, &str, &str); 161] = [
-    ("fill", "", "accepted"),
-    ("fill", "each line receipt goods(quantity = 1);", "fill 35 1"),
-    ("fill", "é", "fill 0 1"),
-    ("fill", "receipt goods(item = \"i\"; quantity = 1); #", "fill 41 1"),
-    ("fill", "once", "fill 4 1"),
-    ("fill", "each once receipt goods(item = \"i\"; quantity = 1);", "fill 5 1"),
-    ("fill", "each line", "fill 9 1"),
-    ("fill", "rec", "fill 0 1"),
-    ("fill", "sell goods(item = \"i\"; quantity = 1);", "fill 0 1"),
-    ("fill", "receipt (item = \"i\"; quantity = 1);", "fill 8 1"),
-    ("fill", "receipt _goods(item = \"i\"; quantity = 1);", "fill 8 1"),
-    ("fill", "receipt \"a b\"(item = \"i\"; quantity = 1);", "fill 8 1"),
-    ("fill", "receipt goods ;", "fill 14 1"),
-    ("fill", "receipt goods(item \"nail\"; quantity = 1);", "fill 19 1"),
-    ("fill", "receipt goods(item = nail; quantity = 1);", "fill 21 1"),
-    ("fill", "receipt goods(item = total.quantity; quantity = 1);", "fill 21 1"),
-    ("fill", "receipt goods(item = \"\"; quantity = 1);", "fill 22 1"),
-    ("fill", "receipt goods(item = \"a b\"; quantity = 1);", "fill 23 1"),
-    ("fill", "receipt goods(item = \"nail", "fill 26 1"),
-    ("fill", "receipt goods(item = \"aaaaaaaaaaaaaaaaaaaaaaaaaaaaaaaaa\"; quantity = 1);", "fill 54 1"),
-    ("fill", "receipt goods(item = \"aaaaaaaaaaaaaaaaaaaaaaaaaaaaaaaa\"; quantity = 1);", "accepted"),
-    ("fill", "receipt goods(item = \"nail\", ; quantity = 1);", "fill 29 1"),
-    ("fill", "receipt goods(item = point.; quantity = 1);", "fill 26 1"),
-    ("fill", "receipt goods(item = head; quantity = 1);", "fill 25 1"),
-    ("fill", "receipt goods(item = head.1; quantity = 1);", "fill 26 1"),
-    ("fill", "receipt goods(item = \"nail\"; );", "fill 29 1"),
-    ("fill", "receipt goods(item = \"nail\"; quantity 1);", "fill 38 1"),
-    ("fill", "receipt goods(item = \"nail\"; quantity = 1.);", "fill 41 1"),
-    ("fill", "receipt goods(item = \"nail\"; quantity = 1.5.2);", "fill 43 1"),
-    ("fill", "receipt goods(item = \"nail\"; quantity = 1 +);", "fill 43 1"),
-    ("fill", "receipt goods(item = \"nail\"; quantity = + 1);", "fill 40 1"),
-    ("fill", "receipt goods(item = \"nail\"; quantity = - - 1);", "fill 42 1"),
-    ("fill", "receipt goods(item = \"nail\"; quantity = 12", "fill 42 1"),
-    ("fill", "receipt goods(item = \"nail\"; quantity = 1)", "fill 42 1"),
-    ("fill", "receipt goods(item = \"nail\"; quantity = 1) receipt goods(item = \"i\"; quantity = 1);", "fill 43 1"),
-    ("fill", "receipt goods(item = \"i\"; quantity = 1) when ;", "fill 45 1"),
-    ("fill", "receipt goods(item = \"i\"; quantity = 1) when 1 ;", "fill 47 1"),
-    ("fill", "receipt goods(item = \"i\"; quantity = 1) when 1 = ;", "fill 49 1"),
-    ("fill", "receipt goods(item = \"i\"; quantity = 1) when \"a\" < \"b\";", "fill 49 1"),
-    ("fill", "receipt goods(item = \"i\"; quantity = 1) when \"a\" = 1;", "fill 51 1"),
-    ("fill", "receipt goods(item = \"i\"; quantity = 1) when \"a\" = total.quantity;", "fill 51 1"),
-    ("fill", "receipt goods(item = \"i\"; quantity = 1) when \"a\" = cost;", "fill 51 1"),
-    ("fill", "receipt goods(item = \"i\"; quantity = 1) when \"a\" = head.warehouse + 1;", "fill 66 1"),
-    ("fill", "receipt goods(item = \"i\"; quantity = 1) when head.warehouse < \"a\";", "fill 62 1"),
-    ("fill", "receipt goods(item = \"i\"; quantity = 1) when head.limit + 1 = \"a\";", "fill 62 1"),
-    ("fill", "fifo stock(warehouse = \"m\", item = \"i\"; quantity = 1);", "fill 52 1"),
-    ("fill", "average goods(item = \"i\"; quantity = 1, amount = 2);", "fill 47 1"),
-    ("fill", "require goods(item = \"i\"; quantity) > 1 code \"x\";", "fill 36 1"),
-    ("fill", "require goods(item = \"i\"; quantity) >= 1 ;", "fill 41 1"),
-    ("fill", "require goods(item = \"i\"; quantity) >= 1 code head.warehouse;", "fill 46 1"),
-    ("fill", "control goods ;", "fill 14 1"),
-    ("fill", "entry main(\"10\"(), credit \"60\"(); 1);", "fill 11 1"),
-    ("fill", "entry main(debit point, credit none; 1);", "fill 17 1"),
-    ("fill", "entry main(debit \"10\", credit none; 1);", "fill 21 1"),
-    ("fill", "entry main(debit none ; 1);", "fill 22 1"),
-    ("fill", "entry main(debit none, credit \"10\"(\"a\", ); 1);", "fill 40 1"),
-    ("fill", "entry main(debit none, credit none, 1);", "fill 34 1"),
-    ("fill", "receipt nowhere(; a = 1); x", "fill 26 1"),
-    ("fill", "\t receipt\r\n goods ( item=\"i\" ;quantity=1 ) ;\n", "accepted"),
-    ("fill", "receipt Goods(item = \"i\"; quantity = 1);", "fill 0 2"),
-    ("fill", "receipt abcdefghijklmnopqrstuvwxyzabcd(item = \"i\"; quantity = 1);", "fill 0 2"),
-    ("fill", "  receipt goods(what = \"i\"; quantity = 1);", "fill 2 2"),
-    ("fill", "receipt goods(item = head.nothing; quantity = 1);", "fill 0 2"),
-    ("fill", "receipt goods(item = \"i\"; nothing = 1);", "fill 0 2"),
-    ("fill", "receipt goods(item = \"i\"; quantity = head.nothing);", "fill 0 2"),
-    ("fill", "receipt goods(item = \"i\"; quantity = total.nothing);", "fill 0 2"),
-    ("fill", "expense nowhere(item = \"i\"; quantity = 1);", "fill 0 2"),
-    ("fill", "turn sales(item = \"i\"; price = 1);", "fill 0 2"),
-    ("fill", "fifo nowhere(; quantity = 1, amount);", "fill 0 2"),
-    ("fill", "fifo stock(warehouse = \"m\", item = \"i\"; quantity = 1, nothing);", "fill 0 2"),
-    ("fill", "average goods(item = \"i\"; nothing = 1, amount);", "fill 0 2"),
-    ("fill", "require goods(; nothing) >= 1 code \"x\";", "fill 0 2"),
-    ("fill", "control nowhere quantity;", "fill 0 2"),
-    ("fill", "control goods nothing;", "fill 0 2"),
-    ("fill", "entry nowhere(debit none, credit none; 1);", "fill 0 2"),
-    ("fill", "entry main(debit head.nothing(), credit none; 1);", "fill 0 2"),
-    ("fill", "entry main(debit \"10\"(line.nothing), credit none; total.quantity);", "fill 0 2"),
-    ("fill", "receipt goods(item = \"i\"; quantity = 1) when head.nothing = 1;", "fill 0 2"),
-    ("fill", "each line receipt goods(; quantity = 1);", "fill 0 3"),
-    ("fill", "receipt stock(warehouse = \"m\", item = \"i\"; quantity = 1);", "fill 0 3"),
-    ("fill", "expense goods(; quantity = 1);", "fill 0 3"),
-    ("fill", "turn sales(; quantity = 1);", "fill 0 3"),
-    ("fill", "fifo stock(item = \"i\"; quantity = 1, amount);", "fill 0 3"),
-    ("fill", "average stock(warehouse = \"m\", item = \"i\"; quantity = 1, amount);", "fill 0 3"),
-    ("fill", "receipt goods(; quantity = head.warehouse);", "fill 0 3"),
-    ("fill", "require goods(; quantity) >= 1 code \"x\";", "accepted"),
-    ("fill", "receipt goods(item = \"i\", item = \"j\"; quantity = 1);", "fill 0 4"),
-    ("fill", "receipt goods(item = \"i\"; quantity = 1, quantity = 2);", "fill 0 4"),
-    ("fill", "turn goods(item = \"i\", item = \"j\"; quantity = 1);", "fill 0 4"),
-    ("fill", "fifo stock(warehouse = \"m\", item = \"i\", item = \"i\"; quantity = 1, amount);", "fill 0 4"),
-    ("fill", "average goods(item = \"i\"; quantity = 1, quantity);", "fill 0 4"),
-    ("fill", "require goods(item = \"i\", item = \"j\"; quantity) >= 1 code \"x\";", "fill 0 4"),
-    ("fill", "receipt goods(item = head.limit; quantity = 1);", "fill 0 5"),
-    ("fill", "receipt goods(item = \"i\"; quantity = head.warehouse);", "fill 0 5"),
-    ("fill", "receipt goods(item = \"i\"; amount = total.quantity);", "fill 0 5"),
-    ("fill", "receipt goods(item = point; quantity = 1);", "fill 0 5"),
-    ("fill", "receipt stock(warehouse = \"m\", item = \"i\", lot = \"l\"; quantity = 1);", "fill 0 5"),
-    ("fill", "receipt goods(item = \"i\"; quantity = 1.2345);", "fill 0 5"),
-    ("fill", "receipt goods(item = \"i\"; quantity = 1000000000000);", "fill 0 5"),
-    ("fill", "receipt goods(item = \"i\"; quantity = 999999999999.999);", "accepted"),
-    ("fill", "receipt goods(item = \"i\"; quantity = 99999999999999999999999999);", "fill 0 5"),
-    ("fill", "fifo stock(warehouse = \"m\", item = \"i\", lot = \"l\"; quantity = 1, amount);", "fill 0 5"),
-    ("fill", "average goods(item = \"i\"; quantity = 1.2345, amount);", "fill 0 5"),
-    ("fill", "require goods(; amount) >= 1.234 code \"x\";", "fill 0 5"),
-    ("fill", "entry main(debit \"10\"(head.limit), credit none; 1);", "fill 0 5"),
-    ("fill", "entry main(debit none, credit none; 1.234);", "fill 0 5"),
-    ("fill", "receipt goods(item = \"i\"; quantity = 1) when head.warehouse < 1;", "fill 0 5"),
-    ("fill", "receipt goods(item = \"i\"; quantity = 1) when head.limit = \"a\";", "fill 0 5"),
-    ("fill", "receipt goods(item = \"i\"; quantity = 1) when head.warehouse = 1;", "fill 0 5"),
-    ("fill", "receipt goods(item = \"i\"; quantity = 1) when head.warehouse = head.limit;", "fill 0 5"),
-    ("fill", "receipt goods(item = \"i\"; quantity = 1) when head.limit = 1.2345;", "fill 0 5"),
-    ("fill", "receipt goods(item = \"i\"; quantity = 1) when 1.2345 = head.limit;", "fill 0 5"),
-    ("fill", "receipt goods(item = \"i\"; quantity = 1) when 1.234567 = 2;", "accepted"),
-    ("fill", "receipt goods(item = \"i\"; quantity = 1) when 1.2345678 = 2;", "fill 0 5"),
-    ("fill", "each line receipt goods(item = \"i\"; quantity = 1) when line.quantity = line.amount;", "fill 0 5"),
-    ("fill", "receipt goods(item = \"i\"; quantity = 1) when head.warehouse = \"a\";", "accepted"),
-    ("fill", "each line receipt goods(item = \"i\"; quantity = 1) when head.warehouse <> line.item;", "accepted"),
-    ("fill", "receipt goods(item = line.item; quantity = 1);", "fill 0 6"),
-    ("fill", "once receipt goods(item = \"i\"; quantity = line.quantity);", "fill 0 6"),
-    ("fill", "receipt goods(item = \"i\"; amount = cost);", "fill 0 6"),
-    ("fill", "expense goods(item = line.item; quantity = 1);", "fill 0 6"),
-    ("fill", "turn sales(item = \"i\"; quantity = line.quantity);", "fill 0 6"),
-    ("fill", "fifo stock(warehouse = \"m\", item = line.item; quantity = 1, amount);", "fill 0 6"),
-    ("fill", "average goods(item = \"i\"; quantity = line.quantity, amount);", "fill 0 6"),
-    ("fill", "require goods(item = line.item; quantity) >= 1 code \"x\";", "fill 0 6"),
-    ("fill", "entry main(debit \"10\"(line.item), credit none; 1);", "fill 0 6"),
-    ("fill", "receipt goods(item = \"i\"; quantity = 1) when line.quantity = 1;", "fill 0 6"),
-    ("fill", "receipt goods(item = \"i\"; quantity = 1) when cost = 1.2345678;", "fill 0 6"),
-    ("fill", "each line average goods(item = \"i\"; quantity = 1, amount); once receipt goods(item = \"i\"; amount = cost);", "fill 59 6"),
-    ("fill", "average goods(item = \"i\"; quantity = 1, amount); turn sales(item = \"i\"; amount = cost);", "accepted"),
-    ("fill", "average goods(item = \"i\"; quantity = 1, amount); turn sales(item = \"i\"; quantity = cost);", "fill 49 5"),
-    ("fill", "once control goods quantity;", "fill 0 6"),
-    ("fill", "each line control goods quantity;", "fill 0 6"),
-    ("fill", "control goods quantity when 1 = 1;", "fill 0 6"),
-    ("fill", "once control sales quantity;", "fill 0 6"),
-    ("fill", "receipt sales(item = \"i\"; quantity = 1);", "fill 0 7"),
-    ("fill", "expense sales(item = \"i\"; quantity = 1);", "fill 0 7"),
-    ("fill", "turn goods(item = \"i\"; quantity = 1);", "fill 0 7"),
-    ("fill", "fifo sales(item = \"i\"; quantity = 1, amount);", "fill 0 7"),
-    ("fill", "fifo goods(item = \"i\"; quantity = 1, amount);", "fill 0 7"),
-    ("fill", "fifo stock(warehouse = \"m\", item = \"i\", lot = point; quantity = 1, amount);", "fill 0 7"),
-    ("fill", "average sales(item = \"i\"; quantity = 1, amount);", "fill 0 7"),
-    ("fill", "require sales(; quantity) >= 1 code \"x\";", "fill 0 7"),
-    ("fill", "control sales quantity;", "fill 0 7"),
-    ("fill", "receipt sales(item = \"i\"; quantity = 1); receipt nowhere(; a = 1);", "fill 0 7"),
-    ("fill", "control goods quantity; receipt sales(item = \"i\"; quantity = line.quantity);", "fill 24 6"),
-    ("sale", "receipt stock(warehouse = head.warehouse, item = \"i\", lot = point; quantity = 1);", "accepted"),
-    ("sale", "receipt stock(warehouse = \"m\", item = \"i\", lot = point; quantity = 1);", "sale 0 9"),
-    ("sale", "receipt stock(warehouse = head.other, item = \"i\", lot = point; quantity = 1);", "sale 0 9"),
-    ("sale", "each line receipt stock(warehouse = line.item, item = \"i\", lot = point; quantity = 1);", "sale 0 9"),
-    ("sale", "receipt goods(item = \"i\"; quantity = 1);", "accepted"),
-    ("sale", "average goods(item = \"i\"; quantity = 1, amount);", "sale 0 9"),
-    ("sale", "require goods(; quantity) >= 1 code \"x\";", "sale 0 9"),
-    ("sale", "require stock(; quantity) >= 1 code \"x\";", "sale 0 9"),
-    ("sale", "require stock(warehouse = head.warehouse; quantity) >= 1 code \"x\";", "accepted"),
-    ("sale", "fifo stock(warehouse = head.warehouse, item = \"i\"; quantity = 1, amount);", "accepted"),
-    ("sale", "fifo stock(warehouse = \"m\", item = \"i\"; quantity = 1, amount);", "sale 0 9"),
-    ("sale", "expense stock(warehouse = \"m\", item = \"i\", lot = point; quantity = 1);", "sale 0 9"),
-    ("sale", "average stock(warehouse = \"m\", item = \"i\", lot = point; quantity = 1, amount);", "sale 0 9"),
-    ("sale", "control stock quantity; control goods quantity;", "accepted"),
-    ("sale", "turn sales(item = \"i\"; quantity = 1);", "accepted"),
+/// Words, names and codes that can't follow.
+const WORDS: [(&str, &str); 21] = [
+    ("", "accepted"),
+    ("each line receipt goods(quantity = 1);", "fill 35 1"),
+    ("é", "fill 0 1"),
+    ("receipt goods(item = \"i\"; quantity = 1); #", "fill 41 1"),
+    ("once", "fill 4 1"),
+    (
+        "each once receipt goods(item = \"i\"; quantity = 1);",
+        "fill 5 1",
+    ),
+    ("each line", "fill 9 1"),
+    ("rec", "fill 0 1"),
+    ("sell goods(item = \"i\"; quantity = 1);", "fill 0 1"),
+    ("receipt (item = \"i\"; quantity = 1);", "fill 8 1"),
+    ("receipt _goods(item = \"i\"; quantity = 1);", "fill 8 1"),
+    ("receipt \"a b\"(item = \"i\"; quantity = 1);", "fill 8 1"),
+    ("receipt goods ;", "fill 14 1"),
+    ("receipt goods(item \"nail\"; quantity = 1);", "fill 19 1"),
+    ("receipt goods(item = nail; quantity = 1);", "fill 21 1"),
+    (
+        "receipt goods(item = total.quantity; quantity = 1);",
+        "fill 21 1",
+    ),
+    ("receipt goods(item = \"\"; quantity = 1);", "fill 22 1"),
+    ("receipt goods(item = \"a b\"; quantity = 1);", "fill 23 1"),
+    ("receipt goods(item = \"nail", "fill 26 1"),
+    (
+        "receipt goods(item = \"aaaaaaaaaaaaaaaaaaaaaaaaaaaaaaaaa\"; quantity = 1);",
+        "fill 54 1",
+    ),
+    (
+        "receipt goods(item = \"aaaaaaaaaaaaaaaaaaaaaaaaaaaaaaaa\"; quantity = 1);",
+        "accepted",
+    ),
+];
+
+/// Sums and conditions that break off.
+const SUMS: [(&str, &str); 23] = [
+    (
+        "receipt goods(item = \"nail\", ; quantity = 1);",
+        "fill 29 1",
+    ),
+    ("receipt goods(item = point.; quantity = 1);", "fill 26 1"),
+    ("receipt goods(item = head; quantity = 1);", "fill 25 1"),
+    ("receipt goods(item = head.1; quantity = 1);", "fill 26 1"),
+    ("receipt goods(item = \"nail\"; );", "fill 29 1"),
+    ("receipt goods(item = \"nail\"; quantity 1);", "fill 38 1"),
+    (
+        "receipt goods(item = \"nail\"; quantity = 1.);",
+        "fill 41 1",
+    ),
+    (
+        "receipt goods(item = \"nail\"; quantity = 1.5.2);",
+        "fill 43 1",
+    ),
+    (
+        "receipt goods(item = \"nail\"; quantity = 1 +);",
+        "fill 43 1",
+    ),
+    (
+        "receipt goods(item = \"nail\"; quantity = + 1);",
+        "fill 40 1",
+    ),
+    (
+        "receipt goods(item = \"nail\"; quantity = - - 1);",
+        "fill 42 1",
+    ),
+    ("receipt goods(item = \"nail\"; quantity = 12", "fill 42 1"),
+    ("receipt goods(item = \"nail\"; quantity = 1)", "fill 42 1"),
+    (
+        "receipt goods(item = \"nail\"; quantity = 1) receipt goods(item = \"i\"; quantity = 1);",
+        "fill 43 1",
+    ),
+    (
+        "receipt goods(item = \"i\"; quantity = 1) when ;",
+        "fill 45 1",
+    ),
+    (
+        "receipt goods(item = \"i\"; quantity = 1) when 1 ;",
+        "fill 47 1",
+    ),
+    (
+        "receipt goods(item = \"i\"; quantity = 1) when 1 = ;",
+        "fill 49 1",
+    ),
+    (
+        "receipt goods(item = \"i\"; quantity = 1) when \"a\" < \"b\";",
+        "fill 49 1",
+    ),
+    (
+        "receipt goods(item = \"i\"; quantity = 1) when \"a\" = 1;",
+        "fill 51 1",
+    ),
+    (
+        "receipt goods(item = \"i\"; quantity = 1) when \"a\" = total.quantity;",
+        "fill 51 1",
+    ),
+    (
+        "receipt goods(item = \"i\"; quantity = 1) when \"a\" = cost;",
+        "fill 51 1",
+    ),
+    (
+        "receipt goods(item = \"i\"; quantity = 1) when \"a\" = head.warehouse + 1;",
+        "fill 66 1",
+    ),
+    (
+        "receipt goods(item = \"i\"; quantity = 1) when head.warehouse < \"a\";",
+        "fill 62 1",
+    ),
+];
+
+/// Verbs with something else behind them.
+const ACTS: [(&str, &str); 15] = [
+    (
+        "receipt goods(item = \"i\"; quantity = 1) when head.limit + 1 = \"a\";",
+        "fill 62 1",
+    ),
+    (
+        "fifo stock(warehouse = \"m\", item = \"i\"; quantity = 1);",
+        "fill 52 1",
+    ),
+    (
+        "average goods(item = \"i\"; quantity = 1, amount = 2);",
+        "fill 47 1",
+    ),
+    (
+        "require goods(item = \"i\"; quantity) > 1 code \"x\";",
+        "fill 36 1",
+    ),
+    ("require goods(item = \"i\"; quantity) >= 1 ;", "fill 41 1"),
+    (
+        "require goods(item = \"i\"; quantity) >= 1 code head.warehouse;",
+        "fill 46 1",
+    ),
+    ("control goods ;", "fill 14 1"),
+    ("entry main(\"10\"(), credit \"60\"(); 1);", "fill 11 1"),
+    ("entry main(debit point, credit none; 1);", "fill 17 1"),
+    ("entry main(debit \"10\", credit none; 1);", "fill 21 1"),
+    ("entry main(debit none ; 1);", "fill 22 1"),
+    (
+        "entry main(debit none, credit \"10\"(\"a\", ); 1);",
+        "fill 40 1",
+    ),
+    ("entry main(debit none, credit none, 1);", "fill 34 1"),
+    ("receipt nowhere(; a = 1); x", "fill 26 1"),
+    (
+        "\t receipt\r\n goods ( item=\"i\" ;quantity=1 ) ;\n",
+        "accepted",
+    ),
+];
+
+/// Names that nothing has.
+const NAMES: [(&str, &str); 19] = [
+    ("receipt Goods(item = \"i\"; quantity = 1);", "fill 0 2"),
+    (
+        "receipt abcdefghijklmnopqrstuvwxyzabcd(item = \"i\"; quantity = 1);",
+        "fill 0 2",
+    ),
+    ("  receipt goods(what = \"i\"; quantity = 1);", "fill 2 2"),
+    (
+        "receipt goods(item = head.nothing; quantity = 1);",
+        "fill 0 2",
+    ),
+    ("receipt goods(item = \"i\"; nothing = 1);", "fill 0 2"),
+    (
+        "receipt goods(item = \"i\"; quantity = head.nothing);",
+        "fill 0 2",
+    ),
+    (
+        "receipt goods(item = \"i\"; quantity = total.nothing);",
+        "fill 0 2",
+    ),
+    ("expense nowhere(item = \"i\"; quantity = 1);", "fill 0 2"),
+    ("turn sales(item = \"i\"; price = 1);", "fill 0 2"),
+    ("fifo nowhere(; quantity = 1, amount);", "fill 0 2"),
+    (
+        "fifo stock(warehouse = \"m\", item = \"i\"; quantity = 1, nothing);",
+        "fill 0 2",
+    ),
+    (
+        "average goods(item = \"i\"; nothing = 1, amount);",
+        "fill 0 2",
+    ),
+    ("require goods(; nothing) >= 1 code \"x\";", "fill 0 2"),
+    ("control nowhere quantity;", "fill 0 2"),
+    ("control goods nothing;", "fill 0 2"),
+    ("entry nowhere(debit none, credit none; 1);", "fill 0 2"),
+    (
+        "entry main(debit head.nothing(), credit none; 1);",
+        "fill 0 2",
+    ),
+    (
+        "entry main(debit \"10\"(line.nothing), credit none; total.quantity);",
+        "fill 0 2",
+    ),
+    (
+        "receipt goods(item = \"i\"; quantity = 1) when head.nothing = 1;",
+        "fill 0 2",
+    ),
+];
+
+/// Dimensions without a value, or with two.
+const BINDS: [(&str, &str); 14] = [
+    ("each line receipt goods(; quantity = 1);", "fill 0 3"),
+    (
+        "receipt stock(warehouse = \"m\", item = \"i\"; quantity = 1);",
+        "fill 0 3",
+    ),
+    ("expense goods(; quantity = 1);", "fill 0 3"),
+    ("turn sales(; quantity = 1);", "fill 0 3"),
+    (
+        "fifo stock(item = \"i\"; quantity = 1, amount);",
+        "fill 0 3",
+    ),
+    (
+        "average stock(warehouse = \"m\", item = \"i\"; quantity = 1, amount);",
+        "fill 0 3",
+    ),
+    ("receipt goods(; quantity = head.warehouse);", "fill 0 3"),
+    ("require goods(; quantity) >= 1 code \"x\";", "accepted"),
+    (
+        "receipt goods(item = \"i\", item = \"j\"; quantity = 1);",
+        "fill 0 4",
+    ),
+    (
+        "receipt goods(item = \"i\"; quantity = 1, quantity = 2);",
+        "fill 0 4",
+    ),
+    (
+        "turn goods(item = \"i\", item = \"j\"; quantity = 1);",
+        "fill 0 4",
+    ),
+    (
+        "fifo stock(warehouse = \"m\", item = \"i\", item = \"i\"; quantity = 1, amount);",
+        "fill 0 4",
+    ),
+    (
+        "average goods(item = \"i\"; quantity = 1, quantity);",
+        "fill 0 4",
+    ),
+    (
+        "require goods(item = \"i\", item = \"j\"; quantity) >= 1 code \"x\";",
+        "fill 0 4",
+    ),
+];
+
+/// Codes for numbers, numbers for codes, and wrong scales.
+const TYPES: [(&str, &str); 14] = [
+    (
+        "receipt goods(item = head.limit; quantity = 1);",
+        "fill 0 5",
+    ),
+    (
+        "receipt goods(item = \"i\"; quantity = head.warehouse);",
+        "fill 0 5",
+    ),
+    (
+        "receipt goods(item = \"i\"; amount = total.quantity);",
+        "fill 0 5",
+    ),
+    ("receipt goods(item = point; quantity = 1);", "fill 0 5"),
+    (
+        "receipt stock(warehouse = \"m\", item = \"i\", lot = \"l\"; quantity = 1);",
+        "fill 0 5",
+    ),
+    (
+        "receipt goods(item = \"i\"; quantity = 1.2345);",
+        "fill 0 5",
+    ),
+    (
+        "receipt goods(item = \"i\"; quantity = 1000000000000);",
+        "fill 0 5",
+    ),
+    (
+        "receipt goods(item = \"i\"; quantity = 999999999999.999);",
+        "accepted",
+    ),
+    (
+        "receipt goods(item = \"i\"; quantity = 99999999999999999999999999);",
+        "fill 0 5",
+    ),
+    (
+        "fifo stock(warehouse = \"m\", item = \"i\", lot = \"l\"; quantity = 1, amount);",
+        "fill 0 5",
+    ),
+    (
+        "average goods(item = \"i\"; quantity = 1.2345, amount);",
+        "fill 0 5",
+    ),
+    ("require goods(; amount) >= 1.234 code \"x\";", "fill 0 5"),
+    (
+        "entry main(debit \"10\"(head.limit), credit none; 1);",
+        "fill 0 5",
+    ),
+    ("entry main(debit none, credit none; 1.234);", "fill 0 5"),
+];
+
+/// Conditions of mixed types and scales.
+const CONDITIONS: [(&str, &str); 11] = [
+    (
+        "receipt goods(item = \"i\"; quantity = 1) when head.warehouse < 1;",
+        "fill 0 5",
+    ),
+    (
+        "receipt goods(item = \"i\"; quantity = 1) when head.limit = \"a\";",
+        "fill 0 5",
+    ),
+    (
+        "receipt goods(item = \"i\"; quantity = 1) when head.warehouse = 1;",
+        "fill 0 5",
+    ),
+    (
+        "receipt goods(item = \"i\"; quantity = 1) when head.warehouse = head.limit;",
+        "fill 0 5",
+    ),
+    (
+        "receipt goods(item = \"i\"; quantity = 1) when head.limit = 1.2345;",
+        "fill 0 5",
+    ),
+    (
+        "receipt goods(item = \"i\"; quantity = 1) when 1.2345 = head.limit;",
+        "fill 0 5",
+    ),
+    (
+        "receipt goods(item = \"i\"; quantity = 1) when 1.234567 = 2;",
+        "accepted",
+    ),
+    (
+        "receipt goods(item = \"i\"; quantity = 1) when 1.2345678 = 2;",
+        "fill 0 5",
+    ),
+    (
+        "each line receipt goods(item = \"i\"; quantity = 1) when line.quantity = line.amount;",
+        "fill 0 5",
+    ),
+    (
+        "receipt goods(item = \"i\"; quantity = 1) when head.warehouse = \"a\";",
+        "accepted",
+    ),
+    (
+        "each line receipt goods(item = \"i\"; quantity = 1) when head.warehouse <> line.item;",
+        "accepted",
+    ),
+];
+
+/// Fields of lines and costs where there are none.
+const SCOPES: [(&str, &str); 17] = [
+    ("receipt goods(item = line.item; quantity = 1);", "fill 0 6"),
+    (
+        "once receipt goods(item = \"i\"; quantity = line.quantity);",
+        "fill 0 6",
+    ),
+    ("receipt goods(item = \"i\"; amount = cost);", "fill 0 6"),
+    ("expense goods(item = line.item; quantity = 1);", "fill 0 6"),
+    (
+        "turn sales(item = \"i\"; quantity = line.quantity);",
+        "fill 0 6",
+    ),
+    (
+        "fifo stock(warehouse = \"m\", item = line.item; quantity = 1, amount);",
+        "fill 0 6",
+    ),
+    (
+        "average goods(item = \"i\"; quantity = line.quantity, amount);",
+        "fill 0 6",
+    ),
+    (
+        "require goods(item = line.item; quantity) >= 1 code \"x\";",
+        "fill 0 6",
+    ),
+    (
+        "entry main(debit \"10\"(line.item), credit none; 1);",
+        "fill 0 6",
+    ),
+    (
+        "receipt goods(item = \"i\"; quantity = 1) when line.quantity = 1;",
+        "fill 0 6",
+    ),
+    (
+        "receipt goods(item = \"i\"; quantity = 1) when cost = 1.2345678;",
+        "fill 0 6",
+    ),
+    (
+        "each line average goods(item = \"i\"; quantity = 1, amount); once receipt goods(item = \"i\"; amount = cost);",
+        "fill 59 6",
+    ),
+    (
+        "average goods(item = \"i\"; quantity = 1, amount); turn sales(item = \"i\"; amount = cost);",
+        "accepted",
+    ),
+    (
+        "average goods(item = \"i\"; quantity = 1, amount); turn sales(item = \"i\"; quantity = cost);",
+        "fill 49 5",
+    ),
+    ("once control goods quantity;", "fill 0 6"),
+    ("each line control goods quantity;", "fill 0 6"),
+    ("control goods quantity when 1 = 1;", "fill 0 6"),
+];
+
+/// Verbs that do not suit their register, and two faults at once.
+const REGISTERS: [(&str, &str); 12] = [
+    ("once control sales quantity;", "fill 0 6"),
+    ("receipt sales(item = \"i\"; quantity = 1);", "fill 0 7"),
+    ("expense sales(item = \"i\"; quantity = 1);", "fill 0 7"),
+    ("turn goods(item = \"i\"; quantity = 1);", "fill 0 7"),
+    (
+        "fifo sales(item = \"i\"; quantity = 1, amount);",
+        "fill 0 7",
+    ),
+    (
+        "fifo goods(item = \"i\"; quantity = 1, amount);",
+        "fill 0 7",
+    ),
+    (
+        "fifo stock(warehouse = \"m\", item = \"i\", lot = point; quantity = 1, amount);",
+        "fill 0 7",
+    ),
+    (
+        "average sales(item = \"i\"; quantity = 1, amount);",
+        "fill 0 7",
+    ),
+    ("require sales(; quantity) >= 1 code \"x\";", "fill 0 7"),
+    ("control sales quantity;", "fill 0 7"),
+    (
+        "receipt sales(item = \"i\"; quantity = 1); receipt nowhere(; a = 1);",
+        "fill 0 7",
+    ),
+    (
+        "control goods quantity; receipt sales(item = \"i\"; quantity = line.quantity);",
+        "fill 24 6",
+    ),
+];
+
+/// Rules of a type that stands in a sequence.
+const SEQUENCES: [(&str, &str); 15] = [
+    (
+        "receipt stock(warehouse = head.warehouse, item = \"i\", lot = point; quantity = 1);",
+        "accepted",
+    ),
+    (
+        "receipt stock(warehouse = \"m\", item = \"i\", lot = point; quantity = 1);",
+        "sale 0 9",
+    ),
+    (
+        "receipt stock(warehouse = head.other, item = \"i\", lot = point; quantity = 1);",
+        "sale 0 9",
+    ),
+    (
+        "each line receipt stock(warehouse = line.item, item = \"i\", lot = point; quantity = 1);",
+        "sale 0 9",
+    ),
+    ("receipt goods(item = \"i\"; quantity = 1);", "accepted"),
+    (
+        "average goods(item = \"i\"; quantity = 1, amount);",
+        "sale 0 9",
+    ),
+    ("require goods(; quantity) >= 1 code \"x\";", "sale 0 9"),
+    ("require stock(; quantity) >= 1 code \"x\";", "sale 0 9"),
+    (
+        "require stock(warehouse = head.warehouse; quantity) >= 1 code \"x\";",
+        "accepted",
+    ),
+    (
+        "fifo stock(warehouse = head.warehouse, item = \"i\"; quantity = 1, amount);",
+        "accepted",
+    ),
+    (
+        "fifo stock(warehouse = \"m\", item = \"i\"; quantity = 1, amount);",
+        "sale 0 9",
+    ),
+    (
+        "expense stock(warehouse = \"m\", item = \"i\", lot = point; quantity = 1);",
+        "sale 0 9",
+    ),
+    (
+        "average stock(warehouse = \"m\", item = \"i\", lot = point; quantity = 1, amount);",
+        "sale 0 9",
+    ),
+    (
+        "control stock quantity; control goods quantity;",
+        "accepted",
+    ),
+    ("turn sales(item = \"i\"; quantity = 1);", "accepted"),
 ];
 
 fn dimensions(alloc: Global, names: &[(&str, bool)]) -> Option<List<Dimension>> {
@@ -189,12 +510,7 @@ fn resources(alloc: Global) -> Option<List<Resource>> {
     Some(all)
 }
 
-fn register(
-    alloc: Global,
-    name: &str,
-    balance: bool,
-    names: &[(&str, bool)],
-) -> Option<Register> {
+fn register(alloc: Global, name: &str, balance: bool, names: &[(&str, bool)]) -> Option<Register> {
     Some(Register {
         name: Name::parse(name)?,
         balance,
@@ -295,9 +611,72 @@ fn expect(rt: &impl Abort, alloc: Global, kind: &str, rules: &str, wanted: &str)
 }
 
 #[test]
-fn a_text_is_answered_with_its_first_fault(rt: HostRuntime) {
-    for (kind, rules, wanted) in &TEXTS {
-        expect(&rt, rt.alloc(), kind, rules, wanted);
+fn a_word_that_cannot_follow_is_told_by_its_place(rt: HostRuntime) {
+    for (rules, wanted) in &WORDS {
+        expect(&rt, rt.alloc(), "fill", rules, wanted);
+    }
+}
+
+#[test]
+fn a_sum_that_breaks_off_is_told_by_its_place(rt: HostRuntime) {
+    for (rules, wanted) in &SUMS {
+        expect(&rt, rt.alloc(), "fill", rules, wanted);
+    }
+}
+
+#[test]
+fn an_act_that_breaks_off_is_told_by_its_place(rt: HostRuntime) {
+    for (rules, wanted) in &ACTS {
+        expect(&rt, rt.alloc(), "fill", rules, wanted);
+    }
+}
+
+#[test]
+fn an_unknown_name_is_told_before_all_else(rt: HostRuntime) {
+    for (rules, wanted) in &NAMES {
+        expect(&rt, rt.alloc(), "fill", rules, wanted);
+    }
+}
+
+#[test]
+fn a_dimension_has_one_value(rt: HostRuntime) {
+    for (rules, wanted) in &BINDS {
+        expect(&rt, rt.alloc(), "fill", rules, wanted);
+    }
+}
+
+#[test]
+fn a_number_has_the_scale_of_its_place(rt: HostRuntime) {
+    for (rules, wanted) in &TYPES {
+        expect(&rt, rt.alloc(), "fill", rules, wanted);
+    }
+}
+
+#[test]
+fn a_condition_compares_what_is_alike(rt: HostRuntime) {
+    for (rules, wanted) in &CONDITIONS {
+        expect(&rt, rt.alloc(), "fill", rules, wanted);
+    }
+}
+
+#[test]
+fn lines_and_costs_stand_in_their_scope(rt: HostRuntime) {
+    for (rules, wanted) in &SCOPES {
+        expect(&rt, rt.alloc(), "fill", rules, wanted);
+    }
+}
+
+#[test]
+fn a_verb_suits_its_register(rt: HostRuntime) {
+    for (rules, wanted) in &REGISTERS {
+        expect(&rt, rt.alloc(), "fill", rules, wanted);
+    }
+}
+
+#[test]
+fn a_sequence_binds_its_dimensions_to_the_head(rt: HostRuntime) {
+    for (rules, wanted) in &SEQUENCES {
+        expect(&rt, rt.alloc(), "sale", rules, wanted);
     }
 }
 

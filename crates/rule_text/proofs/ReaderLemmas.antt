@@ -1,8 +1,7 @@
 -- The token in front, and one more element of a list.
-use Rattle.std.proofs.Common.{◌≡◌, ℕ, zero, suc, ◌+◌, ◌-◌, ◌<◌, arith, List, [], ◌∷◌, ◌++◌, drop, slice_get, Option, Some, None, Result, Ok, Err, refl, ap, append_assoc, append-nil, sym, ◌∙◌, drop-drop}
+use Rattle.std.proofs.Common.{◌≡◌, ℕ, zero, suc, ◌+◌, ◌-◌, ◌<◌, arith, List, [], ◌∷◌, ◌++◌, drop, slice_get, Option, Some, None, Ok, Err, refl, ap, append_assoc, append-nil, sym, drop-drop}
 use Rattle.rule_text.specs.Readers.{Read, Reader, read_on, give, first, fronted, more_of, many}
 use Rattle.rule_text.specs.declared.token.Lexeme.{Lexeme}
-use Rattle.rule_text.specs.declared.fault.ReadFault.{ReadFault}
 
 -- the element at a place is the first behind those before it
 pub first-drop : (tokens : List Lexeme) (i : ℕ) → first (drop i tokens) ≡ slice_get tokens i

@@ -1,5 +1,5 @@
 -- One more token of a text.
-use Rattle.std.proofs.Common.{◌≡◌, ℕ, zero, suc, ◌+◌, ◌-◌, ◌<◌, ◌≤◌, Bool, true, false, List, [], ◌∷◌, ◌++◌, drop, length, Option, Some, None, slice_index, refl, ap, append_assoc, append-nil, sym, cond, nat_lt, arith, ◌∙◌, lt-ltb, le-ltb}
+use Rattle.std.proofs.Common.{◌≡◌, ℕ, zero, suc, ◌+◌, ◌-◌, ◌<◌, ◌≤◌, Bool, true, false, List, [], ◌∷◌, ◌++◌, drop, length, Some, slice_index, append_assoc, append-nil, sym, cond, nat_lt, arith, lt-ltb, le-ltb}
 use Rattle.std.specs.List.{prefix_len}
 use Rattle.std.proofs.lemmas.Bool.Decides.{nat_tests}
 use Rattle.rule_text.specs.Marks.{double_mark}
@@ -78,4 +78,3 @@ two_bytes (b ∷ c ∷ bytes) mark h = omega arith
 pub ruleset steps = (pieces_from-none, pieces_from-more, pieces_from-last)
 
 pub ruleset lengths = (two_bytes)
-

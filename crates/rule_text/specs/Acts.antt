@@ -1,5 +1,5 @@
 -- How the acts of statements are written.
-use Rattle.std.specs.Prelude.{ℕ, codes, Bool, true, false, List, [], ◌∷◌, Option, Some, None, option_and_then, drop, if◌then◌else◌}
+use Rattle.std.specs.Prelude.{codes, Bool, true, false, List, [], Option, Some, None, option_and_then, drop, if◌then◌else◌}
 use Rattle.rule_text.specs.Readers.{Reader, ◌>>=◌, give, stuck, front, takes, is_mark_next, is_word_next, is_spelt, word_of, mark, word, name, quoted, list_of}
 use Rattle.rule_text.specs.Sums.{code, sum}
 use Rattle.rule_text.specs.declared.mark.Mark.TheVariants.{Open, Close, Semicolon, Comma, Equal, AtLeast}

@@ -1,5 +1,5 @@
 -- The texts of marks, and the marks that bytes spell.
-use Rattle.std.specs.Prelude.{ℕ, codes, ◌==◌, ◌&&◌, if◌then◌else◌, List, length, Option, Some, None}
+use Rattle.std.specs.Prelude.{ℕ, codes, ◌==◌, ◌&&◌, if◌then◌else◌, List, Option, Some, None}
 use Rattle.rule_text.specs.declared.mark.Mark.{Mark}
 use Rattle.rule_text.specs.declared.mark.Mark.TheVariants.{Open, Close, Semicolon, Comma, Equal, Point, Plus, Minus, Less, AtMost, AtLeast, Greater, Differs}
 

@@ -1,5 +1,5 @@
 -- What is asked of terms, sums and conditions as they are written.
-use Rattle.std.specs.Prelude.{ℕ, Bool, true, false, List, [], ◌∷◌, Option, Some, None}
+use Rattle.std.specs.Prelude.{Bool, true, false, List, [], ◌∷◌, Option, Some, None}
 use Rattle.rule_text.specs.declared.plain.PlainCode.{PlainCode}
 use Rattle.rule_text.specs.declared.plain.PlainCode.TheVariants.{Head as HeadCode, Line as LineCode}
 use Rattle.rule_text.specs.declared.plain.PlainPart.{PlainPart}

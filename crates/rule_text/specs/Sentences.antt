@@ -1,11 +1,10 @@
 -- How conditions and whole statements are written, and what a text of statements says.
-use Rattle.std.specs.Prelude.{ℕ, codes, Bool, true, false, ◌==◌, List, [], length, Option, Some, None, option_and_then, option_map, Result, Ok, Err, drop, if◌then◌else◌}
+use Rattle.std.specs.Prelude.{ℕ, codes, Bool, true, false, List, [], length, Option, Some, None, option_and_then, option_map, Result, Ok, Err, drop}
 use Rattle.rule_text.specs.Plain.{lone_field, equality_of}
-use Rattle.rule_text.specs.Readers.{Read, Reader, ◌>>=◌, give, stuck, first, front, takes, is_mark_next, is_word_next, sign_of, mark, word, code_if, ends, list_on}
+use Rattle.rule_text.specs.Readers.{Read, Reader, ◌>>=◌, give, stuck, first, front, takes, is_word_next, sign_of, mark, word, code_if, ends, list_on}
 use Rattle.rule_text.specs.Sums.{code, sum}
 use Rattle.rule_text.specs.Acts.{act}
 use Rattle.rule_text.specs.Tokens.{tokens_of}
-use Rattle.rule_text.specs.declared.fault.ReadFault.{ReadFault}
 use Rattle.rule_text.specs.declared.fault.ReadFault.TheVariants.{Stuck, Memory as ReadMemory}
 use Rattle.rule_text.specs.declared.fault.TextFault.{TextFault}
 use Rattle.rule_text.specs.declared.fault.TextFault.TheVariants.{Syntax, Memory as TextMemory}
@@ -125,6 +124,7 @@ scope = do
     line_if true = do
       _ ← word (codes "line")
       give (Some EachLine)
+
     each_unless : Bool → Reader (Option Scope)
     each_unless true = give (Some Once)
     each_unless false = do
@@ -165,6 +165,7 @@ statements_of text = told (statements (tokens_of text))
     place_or_end : Option ℕ → ℕ
     place_or_end None = length text
     place_or_end (Some place) = place
+
     told : Read (List PlainStatement) → Result (List PlainStatement) TextFault
     told (Ok read) = Ok read.0
     told (Err (Stuck place)) = Err (Syntax (place_or_end place))

@@ -1,7 +1,6 @@
 -- How codes, terms and sums are written.
-use Rattle.std.specs.Prelude.{ℕ, codes, Bool, true, false, List, [], ◌∷◌, Option, Some, None, if◌then◌else◌}
-use Rattle.std.specs.Str.{bytes_eq}
-use Rattle.rule_text.specs.Readers.{Reader, ◌>>=◌, give, stuck, found_or, takes, pick, is_mark_next, is_word_next, is_spelt, word_of, number_of, mark, name, code_if, list_of}
+use Rattle.std.specs.Prelude.{ℕ, codes, Bool, true, false, List, Option, Some, None}
+use Rattle.rule_text.specs.Readers.{Reader, ◌>>=◌, give, stuck, takes, pick, is_mark_next, is_word_next, number_of, mark, name, code_if, list_of}
 use Rattle.rule_text.specs.declared.mark.Mark.TheVariants.{Point as PointMark, Plus as PlusMark, Minus as MinusMark}
 use Rattle.rule_text.specs.declared.token.Literal.{Literal}
 use Rattle.rule_text.specs.declared.token.Spelling.{Spelling}
@@ -28,6 +27,7 @@ owner = do
     owner_if : Bool → Reader Owner
     owner_if true = give OfLine
     owner_if false = stuck
+
     line_unless : Bool → Reader Owner
     line_unless true = give OfHead
     line_unless false = do
@@ -66,6 +66,7 @@ field_part = do
     of_owner : Owner → Spelling → PlainPart
     of_owner OfHead spelling = Head spelling
     of_owner OfLine spelling = Line spelling
+
     total_or : Bool → Reader PlainPart
     total_or true = do
       spelling ← field
@@ -84,6 +85,7 @@ part = do
     cost_or : Bool → Reader PlainPart
     cost_or true = give Cost
     cost_or false = field_part
+
     number_or : Option Literal → Reader PlainPart
     number_or (Some literal) = give (Number literal)
     number_or None = do
@@ -106,6 +108,7 @@ joint = do
     minus_if : Bool → Reader (Option Bool)
     minus_if true = give (Some true)
     minus_if false = give None
+
     minus_unless : Bool → Reader (Option Bool)
     minus_unless true = give (Some false)
     minus_unless false = do

@@ -60,7 +60,7 @@ number_lexeme place bytes =
     if decimals == 0
     then lexeme place whole (Number (literal_of (decimal_value (take whole bytes)) 0))
     else lexeme place (whole + 1 + decimals)
-        (Number (literal_of (digits_of bytes whole decimals) decimals))
+    (Number (literal_of (digits_of bytes whole decimals) decimals))
 
 -- the code of so many bytes behind a quote, where another quote closes it
 unfoldable pub closed_code : List ℕ → ℕ → Option (List ℕ)

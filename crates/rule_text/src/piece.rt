@@ -113,7 +113,7 @@ fn word_lexeme(place: usize, bytes: &[u8]) -> Lexeme
 {
     let len = word_len(bytes);
     Lexeme {
-            place,
+        place,
         token: Token::Word(spelling_at(&bytes[..len])),
         len,
     }
@@ -163,7 +163,7 @@ fn number_lexeme(place: usize, bytes: &[u8]) -> Lexeme
     }
     let rest = &bytes[whole + 1..];
     Lexeme {
-            place,
+        place,
         token: Token::Number(literal_of(&bytes[..whole], &rest[..decimals], decimals)),
         len: whole + 1 + decimals,
     }

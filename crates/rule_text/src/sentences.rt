@@ -191,11 +191,7 @@ fn scope(cursor: &mut Cursor) -> Result<Option<Scope>, ReadFault>
 
 /// A statement whose first byte stands at the place.
 #[tactic(auto, unfolding(crate::specs::Sentences::statement))]
-fn statement(
-    alloc: Global,
-    cursor: &mut Cursor,
-    place: usize,
-) -> Result<PlainStatement, ReadFault>
+fn statement(alloc: Global, cursor: &mut Cursor, place: usize) -> Result<PlainStatement, ReadFault>
     ensures { Reads result (rest cursor.new) (statement_of place (rest cursor.old)) }
 {
     let scope = scope(cursor)?;

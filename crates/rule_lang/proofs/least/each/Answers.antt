@@ -1,5 +1,5 @@
 -- One more check, which finds or speaks against.
-use Rattle.std.proofs.Common.{◌≡◌, Ok, Err, sym, ◌∙◌, arith, rules}
+use Rattle.std.proofs.Common.{◌≡◌, Ok, Err, sym, ◌∙◌, arith}
 use Rattle.rule_lang.proofs.LeastLemmas.{each-found, each-against}
 use Rattle.rule_lang.proofs.least.each.Goals as goal
 

@@ -1,8 +1,7 @@
 -- A number that was capped twice is capped once.
-use Rattle.std.proofs.Common.{◌≡◌, ℕ, List, ◌-◌, ◌^◌, min, arith, ap, ◌∙◌}
+use Rattle.std.proofs.Common.{◌≡◌, ℕ, List, min, arith, ap, ◌∙◌}
 use Rattle.reg_base.specs.Numbers.{read_on}
 use Rattle.reg_base.proofs.NumberLemmas.{read_on-min}
-use Rattle.rule_text.specs.Tokens.{literal_of}
 use Rattle.rule_text.proofs.piece.literal_of.Goals as goal
 
 capped : (first second : ℕ) (whole decimals : List ℕ)

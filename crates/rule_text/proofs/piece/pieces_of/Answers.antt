@@ -2,7 +2,7 @@
 use Rattle.std.proofs.Common.{◌≡◌, ◌≤◌, length, length-drop, ◌+◌, ◌∷◌, [], ◌++◌, drop, arith, ap, sym, ◌∙◌}
 use Rattle.std.specs.List.{prefix_len}
 use Rattle.std.proofs.lemmas.List.{take_rest}
-use Rattle.rule_text.specs.Tokens.{is_blank, pieces_from}
+use Rattle.rule_text.specs.Tokens.{is_blank}
 use Rattle.rule_text.proofs.TokenLemmas.{pieces_from-more, pieces_from-last}
 use Rattle.rule_text.proofs.piece.pieces_of.Goals as goal
 
