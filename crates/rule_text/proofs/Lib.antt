@@ -1,3 +1,4 @@
 pub mod TokenLemmas
 pub mod ReaderLemmas
 pub mod SpellingLemmas
+mod WorkedRows

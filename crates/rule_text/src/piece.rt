@@ -201,7 +201,8 @@ fn read_on(start: u64, digits: &[u8]) -> u64
 }
 
 fn literal_of(whole: &[u8], decimals: &[u8], count: usize) -> Literal
-    ensures { result ≡ literal_of_digits (read_on_from (read_on_from 0 whole.now) decimals.now) count }
+    ensures { let digits = read_on_from (read_on_from 0 whole.now) decimals.now in
+        result ≡ literal_of_digits digits count }
 {
     let digits = read_on(read_on(0, whole), decimals);
     Literal {
