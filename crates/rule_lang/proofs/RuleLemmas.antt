@@ -6,7 +6,8 @@ use Rattle.cfg_model.specs.declared.config.Config.{Config}
 use Rattle.cfg_model.specs.declared.kind.Kind.{Kind}
 use Rattle.rule_text.specs.declared.plain.PlainStatement.{PlainStatement}
 use Rattle.rule_lang.proofs.LeastLemmas.{drop-past}
-use Rattle.rule_lang.specs.Rules.{fault_at, statement_of, costs_after, statements_from, kind_rules, each_kind}
+use Rattle.rule_lang.specs.Rules.{fault_at, statement_of, statements_from, kind_rules, each_kind}
+use Rattle.rule_lang.specs.Costs.{costs_after}
 use Rattle.rule_lang.specs.declared.costs.Costs.{Costs}
 use Rattle.rule_lang.specs.declared.fault.RuleFault.{RuleFault}
 use Rattle.rule_lang.specs.declared.statement.Statement.{Statement}
@@ -16,7 +17,8 @@ one_in_front : {X F : Type 0} (front : List X) (x : X) (rest : Result (List X) F
 one_in_front front x (Ok xs) = ap Ok (sym (append_assoc front (x ∷ []) xs))
 one_in_front front x (Err fault) = refl
 
-from_place : {A : Type 0} (xs : List A) (i : ℕ) (x : A) → i < length xs → x ≡ get_or xs i x
+-- from a place on there is what stands at it, and then the others
+pub from_place : {A : Type 0} (xs : List A) (i : ℕ) (x : A) → i < length xs → x ≡ get_or xs i x
     → drop i xs ≡ x ∷ drop (i + 1) xs
 from_place xs i x below is = rw add-one (drop-cons xs i x below ∙ ap (λ y. y ∷ drop (suc i) xs) (sym is))
 

@@ -10,15 +10,27 @@ use Rattle.rule_text.specs.Tokens.{word_lexeme, decimal_count, number_lexeme, cl
 use Rattle.rule_text.specs.Readers.{mark, word, name, code_if, quoted, ends, many, list_on, list_of}
 use Rattle.rule_text.specs.Plain.{lone_field, equality_of}
 use Rattle.rule_text.specs.Sums.{field, owner, field_code, code, field_part, part, term, joint, next_term, sum}
-use Rattle.rule_text.specs.Acts.{bind_to, bind, next_bind, binds, target, amount, next_amount, amounts, make, write_off, require, control, next_code, extra_codes, account_side, side, sides, entry, opening_of, act_of, verb, act}
-use Rattle.rule_text.specs.Sentences.{test_of, test, equality, text_cond, sums_cond, field_cond, sum_cond, cond, when, scope, statement, next_statement, statements, statements_of}
+use Rattle.rule_text.specs.Binds.{bind_to, bind, next_bind, binds, target, amount, next_amount, amounts}
+use Rattle.rule_text.specs.Acts.{make, write_off, require, control, next_code, extra_codes, account_side, side, sides, entry, opening_of, act_of, verb, act}
+use Rattle.rule_text.specs.Conditions.{test_of, test, equality, text_cond, sums_cond, field_cond, sum_cond, cond, when}
+use Rattle.rule_text.specs.Sentences.{scope, statement, next_statement, statements, statements_of}
 use Rattle.rule_lang.specs.Least.{why_number, both, beside, each}
 use Rattle.rule_lang.specs.Fields.{place_of, field_of, number_field, code_field, units_at}
-use Rattle.rule_lang.specs.Terms.{literal_at, line_part, cost_part, part_of, term_of, sum_of, line_code, code_of, scale_of_field, scale_of_part, first_scale, asked_scale, sums_of, codes_of, lone_code, cond_of}
-use Rattle.rule_lang.specs.Acts.{bind_to as bind_to_here, bind_of, amount_of, none_twice, make_fits, make_act, made, make_of, write_off_fits, write_off_act, written_off, write_off_of, require_fits, require_act, required, require_of, control_of, account_of, side_of, entry_act, entry_of, act_of as act_of_here}
+use Rattle.rule_lang.specs.Terms.{literal_at, line_part, cost_part, part_of, term_of, sum_of, line_code, code_of}
+use Rattle.rule_lang.specs.Conditions.{scale_of_field, scale_of_part, first_scale, asked_scale, sums_of, codes_of, lone_code, cond_of}
+use Rattle.rule_lang.specs.Binds.{bind_to as bind_to_here, bind_of, amount_of, none_twice}
+use Rattle.rule_lang.specs.Makes.{make_fits, make_act, made, make_of}
+use Rattle.rule_lang.specs.WriteOffs.{write_off_fits, write_off_act, written_off, write_off_of}
+use Rattle.rule_lang.specs.Requirements.{require_fits, require_act, required, require_of, control_of}
+use Rattle.rule_lang.specs.Entries.{account_of, side_of, entry_act, entry_of}
+use Rattle.rule_lang.specs.Acts.{act_of as act_of_here}
 use Rattle.rule_lang.specs.Sequences.{sequence_fits, sequences_fit, keeps_sequences}
-use Rattle.rule_lang.specs.Rules.{round_of, scope_fits, when_of, last_fits, finished, statement_in, statement_of, scale_at, costs_after, statements_from, kind_rules, each_kind, rules_of}
+use Rattle.rule_lang.specs.Costs.{round_of, scale_at, costs_after}
+use Rattle.rule_lang.specs.Rules.{scope_fits, when_of, last_fits, finished, statement_in, statement_of, statements_from, kind_rules, each_kind, rules_of}
 use Rattle.rule_lang.specs.FaultTexts.{fault_text}
+use Rattle.rule_lang.specs.TermTexts.{code_text, part_text, term_text, terms_text, test_text, part_scale, terms_scale, cond_text, when_text}
+use Rattle.rule_lang.specs.RuleTexts.{to_text, bind_text, binds_text, amount_text, amounts_text, make_text, act_text, scope_text, statement_text, statements_text, rules_text}
+use Rattle.reg_base.specs.Numbers.{number_text, sum_text, units_text}
 use Rattle.rule_text.specs.declared.plain.Verb.TheVariants.{Receipt}
 use Rattle.rule_lang.specs.declared.fault.RuleFault.TheVariants.{Wrong}
 use Rattle.rule_lang.specs.declared.fault.RuleWhy.TheVariants.{Syntax, Unbound, SequenceUnbound}
@@ -155,3 +167,22 @@ unfolding mark_text single_mark double_mark word_lexeme decimal_count number_lex
     when_of last_fits finished statement_in statement_of scale_at costs_after statements_from
     kind_rules each_kind rules_of fault_text is_name is_code
 reads_elsewhere = refl
+
+-- one unit is printed with the decimals of its resource
+printed : rules_text (shop [] []) 0 (record {
+  each = false;
+  act = Make Receipt 0
+      (record { dimension = 0; to = Code (Text (codes "nail")) } ∷ [])
+      ((
+        0,
+        record {
+          terms = record { minus = false; negative = false; part = Number (pos 1000) } ∷ [];
+        },
+      ) ∷ []);
+  when = None;
+} ∷ [])
+    ≡ codes "once receipt goods(item = \"nail\"; quantity = 1.000);\n"
+unfolding code_text part_text term_text terms_text test_text part_scale terms_scale cond_text
+    when_text to_text bind_text binds_text amount_text amounts_text make_text act_text scope_text
+    statement_text statements_text rules_text scale_at costs_after number_text sum_text units_text
+printed = refl

@@ -1,5 +1,5 @@
 -- The rules of a configuration: the statements of each document type, or the first fault.
-use Rattle.std.specs.Prelude.{ℕ, Bool, true, false, not, ◌+◌, ◌||◌, nat_lt, List, [], ◌∷◌, Option, Some, None, option_and_then, option_map, is_some, slice_get, Result, Ok, Err}
+use Rattle.std.specs.Prelude.{ℕ, Bool, true, false, not, ◌+◌, ◌||◌, nat_lt, List, [], ◌∷◌, Option, Some, None, is_some, Result, Ok, Err}
 use Rattle.reg_base.specs.Results.{◌>>=◌, unless}
 use Rattle.cfg_model.specs.declared.config.Config.{Config}
 use Rattle.cfg_model.specs.declared.kind.Kind.{Kind}
@@ -10,39 +10,23 @@ use Rattle.rule_text.specs.declared.plain.PlainAct.{PlainAct}
 use Rattle.rule_text.specs.declared.plain.PlainAct.TheVariants.{Make as PlainMake, WriteOff as PlainWriteOff, Require as PlainRequire, Control as PlainControl, Entry as PlainEntry}
 use Rattle.rule_text.specs.declared.plain.PlainCond.{PlainCond}
 use Rattle.rule_text.specs.declared.plain.PlainStatement.{PlainStatement}
-use Rattle.rule_text.specs.declared.plain.Scope.{Scope}
-use Rattle.rule_text.specs.declared.plain.Scope.TheVariants.{Once, EachLine}
 use Rattle.rule_lang.specs.Least.{Checked, both, beside}
 use Rattle.rule_lang.specs.Acts.{act_of}
-use Rattle.rule_lang.specs.Terms.{cond_of}
+use Rattle.rule_lang.specs.Conditions.{cond_of}
 use Rattle.rule_lang.specs.declared.fault.RuleFault.{RuleFault}
 use Rattle.rule_lang.specs.declared.fault.RuleFault.TheVariants.{Wrong, Memory}
 use Rattle.rule_lang.specs.declared.fault.RuleWhy.TheVariants.{Syntax, WrongScope, TooMany, SequenceUnbound}
 use Rattle.rule_lang.specs.declared.costs.Costs.{Costs}
 use Rattle.rule_lang.specs.declared.terms.Round.{Round}
 use Rattle.rule_lang.specs.declared.statement.Act.{Act}
-use Rattle.rule_lang.specs.declared.statement.Act.TheVariants.{Make, WriteOff, Require, Control, Entry}
 use Rattle.rule_lang.specs.declared.statement.Cond.{Cond}
 use Rattle.rule_lang.specs.declared.statement.Statement.{Statement}
 use Rattle.rule_lang.specs.Sequences.{keeps_sequences}
+use Rattle.rule_lang.specs.Costs.{round_of, costs_after}
 
 -- a type has at most so many statements
 abbrev pub statement_limit : ℕ
 statement_limit = 64
-
--- a statement without a scope runs once
-abbrev pub is_each : Option Scope → Bool
-is_each None = false
-is_each (Some Once) = false
-is_each (Some EachLine) = true
-
--- the round that a statement runs in, with the scale of its latest write-off
-unfoldable pub round_of : Costs → Option Scope → Round
-round_of costs scope = by_each (is_each scope)
-  where
-    by_each : Bool → Round
-    by_each true = record { each = true; cost = costs.each }
-    by_each false = record { each = false; cost = costs.once }
 
 -- whether the act is a control
 abbrev pub is_control : PlainAct → Bool
@@ -90,26 +74,6 @@ statement_in config kind round before plain =
 unfoldable pub statement_of : Config → Kind → Costs → ℕ → PlainStatement → Checked Statement
 statement_of config kind costs before plain =
     statement_in config kind (round_of costs plain.scope) before plain
-
--- the scale of a resource of a register
-unfoldable pub scale_at : Config → ℕ → ℕ → Option ℕ
-scale_at config register resource =
-    option_and_then (λ r. option_map (λ s. s.scale) (slice_get r.resources resource))
-    (slice_get config.registers register)
-
--- the scale of the latest write-off of one scope in place of what was there
-abbrev pub with_scale : Costs → Bool → Option ℕ → Costs
-with_scale costs true scale = record { once = costs.once; each = scale }
-with_scale costs false scale = record { once = scale; each = costs.each }
-
--- the scales of the latest write-offs behind a statement
-unfoldable pub costs_after : Config → Costs → Bool → Act → Costs
-costs_after config costs each (WriteOff fifo register binds quantity wanted amount) =
-    with_scale costs each (scale_at config register amount)
-costs_after config costs each (Make verb register binds sums) = costs
-costs_after config costs each (Require register binds resource least code) = costs
-costs_after config costs each (Control register resource) = costs
-costs_after config costs each (Entry ledger debit credit amount) = costs
 
 -- the fault of a type at a place
 abbrev pub fault_at : {X : Type 0} → Kind → ℕ → Checked X → Result X RuleFault

@@ -1,28 +1,20 @@
--- What terms, sums, codes and conditions of a statement are in a document type.
-use Rattle.std.specs.Prelude.{ℕ, Bool, true, List, [], ◌∷◌, Option, Some, None, option_and_then, is_ok, Ok, Err, if◌then◌else◌}
+-- What terms, sums and codes of a statement are in a document type.
+use Rattle.std.specs.Prelude.{ℕ, List, Option, Some, None, Ok, Err}
 use Rattle.reg_base.specs.Results.{◌>>=◌, unless, some_or}
-use Rattle.cfg_model.specs.declared.kind.Field.{Field}
 use Rattle.cfg_model.specs.declared.kind.Kind.{Kind}
-use Rattle.rule_text.specs.Plain.{lone_field, equality_of}
 use Rattle.rule_text.specs.declared.token.Literal.{Literal}
 use Rattle.rule_text.specs.declared.token.Spelling.{Spelling}
 use Rattle.rule_text.specs.declared.plain.PlainCode.{PlainCode}
 use Rattle.rule_text.specs.declared.plain.PlainCode.TheVariants.{Text as PlainText, Head as PlainHeadCode, Line as PlainLineCode}
-use Rattle.rule_text.specs.declared.plain.PlainCond.{PlainCond}
-use Rattle.rule_text.specs.declared.plain.PlainCond.TheVariants.{Sums as PlainSums, Codes as PlainCodes}
 use Rattle.rule_text.specs.declared.plain.PlainPart.{PlainPart}
 use Rattle.rule_text.specs.declared.plain.PlainPart.TheVariants.{Number as PlainNumber, Head as PlainHead, Line as PlainLine, Total as PlainTotal, Cost as PlainCost}
 use Rattle.rule_text.specs.declared.plain.PlainTerm.{PlainTerm}
-use Rattle.rule_text.specs.declared.plain.Test.{Test}
-use Rattle.rule_lang.specs.Least.{Checked, both, each}
-use Rattle.rule_lang.specs.Fields.{fits, number_field, code_field, field_of, units_at}
+use Rattle.rule_lang.specs.Least.{Checked, each}
+use Rattle.rule_lang.specs.Fields.{fits, number_field, code_field, units_at}
 use Rattle.rule_lang.specs.declared.fault.RuleWhy.TheVariants.{WrongType, WrongScope}
-use Rattle.rule_lang.specs.declared.fields.FieldAt.{FieldAt}
 use Rattle.rule_lang.specs.declared.terms.Round.{Round}
 use Rattle.rule_lang.specs.declared.statement.CodeTerm.{CodeTerm}
 use Rattle.rule_lang.specs.declared.statement.CodeTerm.TheVariants.{Text, Head as HeadCode, Line as LineCode}
-use Rattle.rule_lang.specs.declared.statement.Cond.{Cond}
-use Rattle.rule_lang.specs.declared.statement.Cond.TheVariants.{Sums, Codes}
 use Rattle.rule_lang.specs.declared.statement.Part.{Part}
 use Rattle.rule_lang.specs.declared.statement.Part.TheVariants.{Number, Head, Line, Total, Cost}
 use Rattle.rule_lang.specs.declared.statement.Sum.{Sum}
@@ -87,74 +79,3 @@ code_of kind round (PlainHeadCode spelling) = do
   place ← code_field kind.head spelling
   Ok (HeadCode place)
 code_of kind round (PlainLineCode spelling) = line_code kind round spelling
-
--- the scale of a field, if there is the field and it has numbers
-unfoldable pub scale_of_field : List Field → Spelling → Option ℕ
-scale_of_field fields spelling = scale_found (field_of fields spelling)
-  where
-    scale_found : Checked FieldAt → Option ℕ
-    scale_found (Ok found) = found.scale
-    scale_found (Err why) = None
-
--- the scale that a part brings to a condition: a number brings none, a field or `cost` its own,
--- which is none where it has no numbers
-unfoldable pub scale_of_part : Kind → Round → PlainPart → Option (Option ℕ)
-scale_of_part kind round (PlainNumber literal) = None
-scale_of_part kind round (PlainHead spelling) = Some (scale_of_field kind.head spelling)
-scale_of_part kind round (PlainLine spelling) = Some (scale_of_field kind.lines spelling)
-scale_of_part kind round (PlainTotal spelling) = Some (scale_of_field kind.lines spelling)
-scale_of_part kind round PlainCost = Some round.cost
-
--- the scale of the first of these terms that brings one, else this one
-unfoldable pub first_scale : Kind → Round → Option ℕ → List PlainTerm → Option ℕ
-first_scale kind round other [] = other
-first_scale kind round other (term ∷ terms) =
-    scale_or (scale_of_part kind round term.part) (first_scale kind round other terms)
-  where
-    scale_or : Option (Option ℕ) → Option ℕ → Option ℕ
-    scale_or None others = others
-    scale_or (Some scale) others = scale
-
--- the scale of the first field or `cost` in a condition, left before right, or else six decimals
-unfoldable pub asked_scale : Kind → Round → List PlainTerm → List PlainTerm → Option ℕ
-asked_scale kind round left right =
-    first_scale kind round (first_scale kind round (Some 6) right) left
-
--- two sums at the scale of the first field or `cost` in them, or with six decimals
-unfoldable pub sums_of : Kind → Round → List PlainTerm → Test → List PlainTerm → Checked Cond
-sums_of kind round left test right = do
-  let asked = asked_scale kind round left right
-  p ← both (sum_of kind round asked left) (sum_of kind round asked right)
-  Ok (Sums p.0 test p.1)
-
--- two codes
-unfoldable pub codes_of : Kind → Round → PlainCode → Bool → PlainCode → Checked Cond
-codes_of kind round left equal right = do
-  p ← both (code_of kind round left) (code_of kind round right)
-  Ok (Codes p.0 equal p.1)
-
--- a field that has codes
-abbrev pub has_code : Kind → PlainCode → Bool
-has_code kind (PlainText code) = true
-has_code kind (PlainHeadCode spelling) = is_ok (code_field kind.head spelling)
-has_code kind (PlainLineCode spelling) = is_ok (code_field kind.lines spelling)
-
--- the field with codes that a sum is
-unfoldable pub lone_code : Kind → List PlainTerm → Option PlainCode
-lone_code kind terms =
-    option_and_then (λ code. if has_code kind code then Some code else None) (lone_field terms)
-
--- two fields with codes are compared as codes, where the test is one for equality
-abbrev pub compared : Option PlainCode → Option Bool → Option PlainCode → Kind → Round
-    → Checked Cond → Checked Cond
-compared (Some left) (Some equal) (Some right) kind round sums = codes_of kind round left equal right
-compared None equal right kind round sums = sums
-compared (Some left) None right kind round sums = sums
-compared (Some left) (Some equal) None kind round sums = sums
-
--- a condition
-unfoldable pub cond_of : Kind → Round → PlainCond → Checked Cond
-cond_of kind round (PlainCodes left equal right) = codes_of kind round left equal right
-cond_of kind round (PlainSums left test right) =
-    compared (lone_code kind left) (equality_of test) (lone_code kind right) kind round
-    (sums_of kind round left test right)

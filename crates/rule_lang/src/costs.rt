@@ -1,6 +1,6 @@
 //! The scales of the latest write-offs, by scope.
 ghost use Rattle.std.specs.Prelude.{◌≡◌};
-ghost use Rattle.rule_lang.specs.Rules.{is_each as is_each_scope, round_of as round_in, scale_at as scale_in, costs_after as costs_in, with_scale as with_scale_in};
+ghost use Rattle.rule_lang.specs.Costs.{is_each as is_each_scope, round_of as round_in, scale_at as scale_in, costs_after as costs_in, with_scale as with_scale_in};
 
 use crate::Act;
 use crate::terms::Round;
@@ -26,7 +26,7 @@ pub(crate) fn is_each(scope: &Option<Scope>) -> bool
 }
 
 /// The round that a statement runs in.
-#[tactic(auto, unfolding(crate::specs::Rules::round_of))]
+#[tactic(auto, unfolding(crate::specs::Costs::round_of))]
 pub(crate) fn round_of(costs: &Costs, scope: &Option<Scope>) -> Round
     ensures { result ≡ round_in costs.now scope.now }
 {
@@ -44,7 +44,7 @@ pub(crate) fn round_of(costs: &Costs, scope: &Option<Scope>) -> Round
 }
 
 /// The scale of a resource of a register.
-#[tactic(auto, unfolding(crate::specs::Rules::scale_at))]
+#[tactic(auto, unfolding(crate::specs::Costs::scale_at))]
 fn scale_at(config: &Config, register: u8, resource: u8) -> Option<Scale>
     ensures { result ≡ scale_in config.now register resource }
 {
@@ -54,7 +54,7 @@ fn scale_at(config: &Config, register: u8, resource: u8) -> Option<Scale>
 }
 
 /// The scales of the latest write-offs behind a statement.
-#[tactic(auto, unfolding(crate::specs::Rules::costs_after))]
+#[tactic(auto, unfolding(crate::specs::Costs::costs_after))]
 pub(crate) fn costs_after(config: &Config, costs: &Costs, each: bool, act: &Act) -> Costs
     ensures { result ≡ costs_in config.now costs.now each act.now }
 {

@@ -17,6 +17,9 @@ pub(crate) trait HasName {
 
     fn has_name(&self, name: &Name) -> bool
         ensures { result ≡ bytes_eq (name_of self.now) name.now };
+
+    fn name(&self) -> &Name
+        ensures { result.now ≡ name_of self.now };
 }
 
 impl HasName for Register {
@@ -24,6 +27,10 @@ impl HasName for Register {
 
     fn has_name(&self, name: &Name) -> bool {
         self.name == *name
+    }
+
+    fn name(&self) -> &Name {
+        &self.name
     }
 }
 
@@ -33,6 +40,10 @@ impl HasName for Chart {
     fn has_name(&self, name: &Name) -> bool {
         self.name == *name
     }
+
+    fn name(&self) -> &Name {
+        &self.name
+    }
 }
 
 impl HasName for Dimension {
@@ -40,6 +51,10 @@ impl HasName for Dimension {
 
     fn has_name(&self, name: &Name) -> bool {
         self.name == *name
+    }
+
+    fn name(&self) -> &Name {
+        &self.name
     }
 }
 
@@ -49,6 +64,10 @@ impl HasName for Resource {
     fn has_name(&self, name: &Name) -> bool {
         self.name == *name
     }
+
+    fn name(&self) -> &Name {
+        &self.name
+    }
 }
 
 impl HasName for Field {
@@ -56,6 +75,10 @@ impl HasName for Field {
 
     fn has_name(&self, name: &Name) -> bool {
         self.name == *name
+    }
+
+    fn name(&self) -> &Name {
+        &self.name
     }
 }
 

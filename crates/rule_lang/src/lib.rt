@@ -6,24 +6,44 @@
 //! Stands on: `reg_base` for names and codes, `cfg_model` for what names mean, `rule_text` for
 //! what a text says.
 //!
-//! Promises: `Rules::read` gives exactly the rules of a configuration, or their first fault.
+//! Promises: `Rules::read` gives exactly the rules of a configuration, or their first fault. Each
+//! place that an accepted statement names is there, with its sort and scale, and the statements of
+//! a type in a sequence keep it. `Rules::print` writes exactly the canonical text of a type.
 //!
-//! Leaves open: when memory is refused.
+//! Leaves open: when memory is refused; that a printed text reads back is tested alone.
 #![tactic(auto)]
 
+mod act_texts;
 mod acts;
+mod binds;
+mod conditions;
 mod costs;
+mod entries;
 mod fault;
 mod fields;
+mod laws;
 mod least;
+mod makes;
+#[cfg(test)]
+mod meaning_rows;
+mod print;
+#[cfg(test)]
+mod printed_rows;
+mod requirements;
 mod rules;
 mod sequences;
+mod spelt;
 mod statement;
+#[cfg(test)]
+mod syntax_rows;
+mod term_texts;
 mod terms;
 #[cfg(test)]
 mod tests;
+mod write_offs;
 
 pub use fault::{RuleFault, RuleWhy};
+pub use laws::{places_are_resolved, sequences_are_kept};
 pub use rule_text::{Test, Verb};
 pub use rules::{Rules, STATEMENT_LIMIT};
 pub use statement::{Act, Bind, BindTo, CodeTerm, Cond, Part, Place, Statement, Sum, Term};

@@ -6,10 +6,11 @@ ghost use Rattle.rule_lang.specs.declared.fault.RuleFault.TheVariants.{Memory as
 ghost use Rattle.rule_text.specs.Sentences.{statements_of};
 
 use crate::acts::act_of;
+use crate::conditions::cond_of;
 use crate::costs::{Costs, costs_after, round_of};
 use crate::least::{Tried, beside, both};
 use crate::sequences::keeps_sequences;
-use crate::terms::{Round, cond_of};
+use crate::terms::Round;
 use crate::{Act, Cond, RuleFault, RuleWhy, Statement};
 use cfg_model::{Config, Kind};
 use reg_base::List;

@@ -1,6 +1,7 @@
 -- The token in front, and one more element of a list.
 use Rattle.std.proofs.Common.{◌≡◌, ℕ, zero, suc, ◌+◌, ◌-◌, ◌<◌, arith, List, [], ◌∷◌, ◌++◌, drop, slice_get, Option, Some, None, Ok, Err, refl, ap, append_assoc, append-nil, sym, drop-drop}
-use Rattle.rule_text.specs.Readers.{Read, Reader, read_on, give, first, fronted, more_of, many}
+use Rattle.rule_text.specs.Readers.{Read, Reader, read_on, give, fronted, more_of, many}
+use Rattle.rule_text.specs.Fronts.{first}
 use Rattle.rule_text.specs.declared.token.Lexeme.{Lexeme}
 
 -- the element at a place is the first behind those before it

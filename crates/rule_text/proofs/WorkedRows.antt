@@ -6,8 +6,10 @@ use Rattle.rule_text.specs.Tokens.{word_lexeme, decimal_count, number_lexeme, cl
 use Rattle.rule_text.specs.Readers.{mark, word, name, code_if, quoted, ends, many, list_on, list_of}
 use Rattle.rule_text.specs.Plain.{lone_field, equality_of}
 use Rattle.rule_text.specs.Sums.{field, owner, field_code, code, field_part, part, term, joint, next_term, sum}
-use Rattle.rule_text.specs.Acts.{bind_to, bind, next_bind, binds, target, amount, next_amount, amounts, make, write_off, require, control, next_code, extra_codes, account_side, side, sides, entry, opening_of, act_of, verb, act}
-use Rattle.rule_text.specs.Sentences.{test_of, test, equality, text_cond, sums_cond, field_cond, sum_cond, cond, when, scope, statement, next_statement, statements, statements_of}
+use Rattle.rule_text.specs.Binds.{bind_to, bind, next_bind, binds, target, amount, next_amount, amounts}
+use Rattle.rule_text.specs.Acts.{make, write_off, require, control, next_code, extra_codes, account_side, side, sides, entry, opening_of, act_of, verb, act}
+use Rattle.rule_text.specs.Conditions.{test_of, test, equality, text_cond, sums_cond, field_cond, sum_cond, cond, when}
+use Rattle.rule_text.specs.Sentences.{scope, statement, next_statement, statements, statements_of}
 use Rattle.rule_text.specs.declared.fault.TextFault.TheVariants.{Syntax}
 use Rattle.rule_text.specs.declared.token.Spelling.TheVariants.{Named}
 use Rattle.rule_text.specs.declared.plain.PlainAct.TheVariants.{Control}

@@ -1,91 +1,21 @@
 -- How the acts of statements are written.
 use Rattle.std.specs.Prelude.{codes, Bool, true, false, List, [], Option, Some, None, option_and_then, drop, if◌then◌else◌}
-use Rattle.rule_text.specs.Readers.{Reader, ◌>>=◌, give, stuck, front, takes, is_mark_next, is_word_next, is_spelt, word_of, mark, word, name, quoted, list_of}
+use Rattle.rule_text.specs.Readers.{Reader, ◌>>=◌, give, stuck, takes, mark, word, name, quoted, list_of}
+use Rattle.rule_text.specs.Fronts.{front, is_mark_next, is_word_next, is_spelt, word_of}
 use Rattle.rule_text.specs.Sums.{code, sum}
-use Rattle.rule_text.specs.declared.mark.Mark.TheVariants.{Open, Close, Semicolon, Comma, Equal, AtLeast}
+use Rattle.rule_text.specs.declared.mark.Mark.TheVariants.{Open, Close, Semicolon, Comma, AtLeast}
 use Rattle.rule_text.specs.declared.token.Lexeme.{Lexeme}
 use Rattle.rule_text.specs.declared.token.Spelling.{Spelling}
 use Rattle.rule_text.specs.declared.acts.Opening.{Opening}
 use Rattle.rule_text.specs.declared.acts.Opening.TheVariants.{Makes, WritesOff, Requires, Controls, Enters}
 use Rattle.rule_text.specs.declared.plain.PlainAct.{PlainAct}
 use Rattle.rule_text.specs.declared.plain.PlainAct.TheVariants.{Make, WriteOff, Require, Control, Entry}
-use Rattle.rule_text.specs.declared.plain.PlainAmount.{PlainAmount}
-use Rattle.rule_text.specs.declared.plain.PlainBind.{PlainBind}
 use Rattle.rule_text.specs.declared.plain.PlainCode.{PlainCode}
 use Rattle.rule_text.specs.declared.plain.PlainSide.{PlainSide}
 use Rattle.rule_text.specs.declared.plain.PlainSides.{PlainSides}
-use Rattle.rule_text.specs.declared.plain.PlainTo.{PlainTo}
-use Rattle.rule_text.specs.declared.plain.PlainTo.TheVariants.{Code, Point}
-use Rattle.rule_text.specs.declared.plain.Target.{Target}
 use Rattle.rule_text.specs.declared.plain.Verb.{Verb}
 use Rattle.rule_text.specs.declared.plain.Verb.TheVariants.{Receipt, Expense, Turn}
-
--- `point`, or a code
-unfoldable pub bind_to : Reader PlainTo
-bind_to = do
-  point ← takes (is_word_next (codes "point"))
-  point_or point
-  where
-    point_or : Bool → Reader PlainTo
-    point_or true = give Point
-    point_or false = do
-      code ← code
-      give (Code code)
-
--- a dimension, `=` and its value
-unfoldable pub bind : Reader PlainBind
-bind = do
-  dimension ← name
-  _ ← mark Equal
-  to ← bind_to
-  give (record { dimension = dimension; to = to })
-
--- one more, where a comma follows
-abbrev pub after_comma : {X : Type 0} → Reader X → Reader (Option X)
-after_comma read = do
-  comma ← takes (is_mark_next Comma)
-  one_if comma read
-  where
-    one_if : {X : Type 0} → Bool → Reader X → Reader (Option X)
-    one_if true read = read >>= λ x. give (Some x)
-    one_if false read = give None
-
--- one more bind
-unfoldable pub next_bind : Reader (Option PlainBind)
-next_bind = after_comma bind
-
--- none before a semicolon, or one and more behind commas
-unfoldable pub binds : Reader (List PlainBind)
-binds = λ tokens. unless_ended (is_mark_next Semicolon tokens) tokens
-  where
-    unless_ended : Bool → Reader (List PlainBind)
-    unless_ended true = give []
-    unless_ended false = list_of bind next_bind
-
--- a register, then `(`, its binds and `;`
-unfoldable pub target : Reader Target
-target = do
-  register ← name
-  _ ← mark Open
-  bound ← binds
-  _ ← mark Semicolon
-  give (record { register = register; binds = bound })
-
--- a resource, `=` and a sum
-unfoldable pub amount : Reader PlainAmount
-amount = do
-  resource ← name
-  _ ← mark Equal
-  terms ← sum
-  give (record { resource = resource; sum = terms })
-
--- one more amount
-unfoldable pub next_amount : Reader (Option PlainAmount)
-next_amount = after_comma amount
-
--- one amount, and more behind commas
-unfoldable pub amounts : Reader (List PlainAmount)
-amounts = list_of amount next_amount
+use Rattle.rule_text.specs.Binds.{after_comma, target, amount, amounts}
 
 -- receipt, expense, turn: a target, amounts and `)`
 unfoldable pub make : Verb → Reader PlainAct

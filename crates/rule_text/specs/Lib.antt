@@ -1,7 +1,10 @@
 pub mod Marks
 pub mod Tokens
+pub mod Fronts
 pub mod Readers
 pub mod Plain
 pub mod Sums
+pub mod Binds
 pub mod Acts
+pub mod Conditions
 pub mod Sentences

@@ -1,18 +1,14 @@
 -- Readers: what stands at the front of a list of tokens, with the tokens behind it; or the first
 -- token that can't follow.
-use Rattle.std.specs.Prelude.{◌≡◌, ◌≢◌, ℕ, zero, suc, Bool, true, false, List, [], ◌∷◌, ◌++◌, drop, length, Option, Some, None, option_map, option_and_then, Result, Ok, Err, if◌then◌else◌}
-use Rattle.std.specs.Str.{bytes_eq}
-use Rattle.rule_text.specs.Marks.{mark_text}
+use Rattle.std.specs.Prelude.{ℕ, ◌≡◌, ◌≢◌, zero, suc, Bool, true, false, List, [], ◌∷◌, ◌++◌, drop, length, Option, Some, None, option_map, Result, Ok, Err, if◌then◌else◌}
 use Rattle.rule_text.specs.declared.mark.Mark.{Mark}
 use Rattle.rule_text.specs.declared.token.Lexeme.{Lexeme}
-use Rattle.rule_text.specs.declared.token.Literal.{Literal}
 use Rattle.rule_text.specs.declared.token.Token.{Token}
-use Rattle.rule_text.specs.declared.token.Token.TheVariants.{Word, Number, Quoted, Sign, Broken}
 use Rattle.rule_text.specs.declared.token.Spelling.{Spelling}
-use Rattle.rule_text.specs.declared.token.Spelling.TheVariants.{Named, Other}
 use Rattle.rule_text.specs.declared.cursor.Cursor.{Cursor}
 use Rattle.rule_text.specs.declared.fault.ReadFault.{ReadFault}
 use Rattle.rule_text.specs.declared.fault.ReadFault.TheVariants.{Stuck, Memory}
+use Rattle.rule_text.specs.Fronts.{first, front, word_of, code_of, break_of, is_mark_next, is_word_next}
 
 -- what a reader gives: a value and the tokens behind it
 abbrev pub Read : Type 0 → Type 0
@@ -35,11 +31,6 @@ read >>= next = λ tokens. read_on next (read tokens)
 abbrev pub give : {X : Type 0} → X → Reader X
 give x = λ tokens. Ok (x, tokens)
 
--- the first token, where there is one
-abbrev pub first : List Lexeme → Option Lexeme
-first [] = None
-first (lexeme ∷ lexemes) = Some lexeme
-
 -- the first token can't follow; none is told where the text ends
 abbrev pub stuck : {X : Type 0} → Reader X
 stuck = λ tokens. Err (Stuck (option_map (λ lexeme. lexeme.place) (first tokens)))
@@ -54,10 +45,6 @@ abbrev pub found_or : {X : Type 0} → Option X → Reader X
 found_or (Some x) = give x
 found_or None = stuck
 
--- what the first token gives, if there is one and it gives something
-abbrev pub front : {X : Type 0} → (Token → Option X) → List Lexeme → Option X
-front gives tokens = option_and_then (λ lexeme. gives lexeme.token) (first tokens)
-
 -- takes the first token where it gives something
 abbrev pub pick : {X : Type 0} → (Token → Option X) → Reader (Option X)
 pick gives = λ tokens. picked (front gives tokens) tokens
@@ -65,67 +52,6 @@ pick gives = λ tokens. picked (front gives tokens) tokens
     picked : {X : Type 0} → Option X → Reader (Option X)
     picked (Some x) tokens = Ok (Some x, drop 1 tokens)
     picked None tokens = Ok (None, tokens)
-
--- the mark that a token is
-abbrev pub sign_of : Token → Option Mark
-sign_of (Sign mark) = Some mark
-sign_of (Word word) = None
-sign_of (Number literal) = None
-sign_of (Quoted code) = None
-sign_of (Broken at) = None
-
--- the word that a token is
-abbrev pub word_of : Token → Option Spelling
-word_of (Word word) = Some word
-word_of (Sign mark) = None
-word_of (Number literal) = None
-word_of (Quoted code) = None
-word_of (Broken at) = None
-
--- the number that a token is
-abbrev pub number_of : Token → Option Literal
-number_of (Number literal) = Some literal
-number_of (Word word) = None
-number_of (Sign mark) = None
-number_of (Quoted code) = None
-number_of (Broken at) = None
-
--- the code that a token is
-abbrev pub code_of : Token → Option (List ℕ)
-code_of (Quoted code) = Some code
-code_of (Word word) = None
-code_of (Number literal) = None
-code_of (Sign mark) = None
-code_of (Broken at) = None
-
--- the byte at which no token can go on
-abbrev pub break_of : Token → Option ℕ
-break_of (Broken at) = Some at
-break_of (Word word) = None
-break_of (Number literal) = None
-break_of (Quoted code) = None
-break_of (Sign mark) = None
-
--- whether the first token is this mark
-abbrev pub is_mark_next : Mark → List Lexeme → Bool
-is_mark_next mark tokens = is_mark (front sign_of tokens)
-  where
-    is_mark : Option Mark → Bool
-    is_mark None = false
-    is_mark (Some other) = bytes_eq (mark_text other) (mark_text mark)
-
--- whether a word is this one
-abbrev pub is_spelt : List ℕ → Spelling → Bool
-is_spelt text Other = false
-is_spelt text (Named name) = bytes_eq name text
-
--- whether the first token is this word
-abbrev pub is_word_next : List ℕ → List Lexeme → Bool
-is_word_next text tokens = is_word (front word_of tokens)
-  where
-    is_word : Option Spelling → Bool
-    is_word None = false
-    is_word (Some spelling) = is_spelt text spelling
 
 -- whether the first token passes the test; it is taken then
 abbrev pub takes : (List Lexeme → Bool) → Reader Bool

@@ -1,6 +1,7 @@
 -- How codes, terms and sums are written.
 use Rattle.std.specs.Prelude.{ℕ, codes, Bool, true, false, List, Option, Some, None}
-use Rattle.rule_text.specs.Readers.{Reader, ◌>>=◌, give, stuck, takes, pick, is_mark_next, is_word_next, number_of, mark, name, code_if, list_of}
+use Rattle.rule_text.specs.Readers.{Reader, ◌>>=◌, give, stuck, takes, pick, mark, name, code_if, list_of}
+use Rattle.rule_text.specs.Fronts.{is_mark_next, is_word_next, number_of}
 use Rattle.rule_text.specs.declared.mark.Mark.TheVariants.{Point as PointMark, Plus as PlusMark, Minus as MinusMark}
 use Rattle.rule_text.specs.declared.token.Literal.{Literal}
 use Rattle.rule_text.specs.declared.token.Spelling.{Spelling}

@@ -2,7 +2,8 @@
 ghost use Rattle.std.specs.Prelude.{◌≡◌};
 ghost use Rattle.rule_text.specs.Readers.{Reads, rest};
 ghost use Rattle.rule_text.specs.Sums.{code as code_of};
-ghost use Rattle.rule_text.specs.Acts.{bind_to as bind_to_of, bind as bind_of, next_bind, binds as binds_of, target as target_of, amount as amount_of, next_amount, amounts as amounts_of, make as make_of, write_off as write_off_of, require as require_of, control as control_of, next_code, extra_codes as extra_codes_of, account_side as account_side_of, side as side_of, sides as sides_of, entry as entry_of, opening_of as opening_of_word, front_opening as front_opening_of, act_of, verb as verb_of, act as any_act};
+ghost use Rattle.rule_text.specs.Binds.{bind_to as bind_to_of, bind as bind_of, next_bind, binds as binds_of, target as target_of, amount as amount_of, next_amount, amounts as amounts_of};
+ghost use Rattle.rule_text.specs.Acts.{make as make_of, write_off as write_off_of, require as require_of, control as control_of, next_code, extra_codes as extra_codes_of, account_side as account_side_of, side as side_of, sides as sides_of, entry as entry_of, opening_of as opening_of_word, front_opening as front_opening_of, act_of, verb as verb_of, act as any_act};
 
 use crate::cursor::{Cursor, Follows, Listed, list_of};
 use crate::fault::ReadFault;
@@ -26,7 +27,7 @@ pub(crate) enum Opening {
 }
 
 /// `point`, or a code.
-#[tactic(auto, unfolding(crate::specs::Acts::bind_to))]
+#[tactic(auto, unfolding(crate::specs::Binds::bind_to))]
 fn bind_to(cursor: &mut Cursor) -> Result<PlainTo, ReadFault>
     ensures { Reads result (rest cursor.new) (bind_to_of (rest cursor.old)) }
 {
@@ -38,7 +39,7 @@ fn bind_to(cursor: &mut Cursor) -> Result<PlainTo, ReadFault>
 }
 
 /// A dimension, `=` and its value.
-#[tactic(auto, unfolding(crate::specs::Acts::bind))]
+#[tactic(auto, unfolding(crate::specs::Binds::bind))]
 fn bind(cursor: &mut Cursor) -> Result<PlainBind, ReadFault>
     ensures { Reads result (rest cursor.new) (bind_of (rest cursor.old)) }
 {
@@ -59,7 +60,7 @@ impl Listed for PlainBind {
 impl Follows for PlainBind {
     ghost follows = { next_bind };
 
-    #[tactic(auto, unfolding(crate::specs::Acts::next_bind))]
+    #[tactic(auto, unfolding(crate::specs::Binds::next_bind))]
     fn follow(_alloc: Global, cursor: &mut Cursor) -> Result<Option<PlainBind>, ReadFault> {
         if !cursor.takes_mark(Mark::Comma) {
             return Ok(None);
@@ -70,7 +71,7 @@ impl Follows for PlainBind {
 }
 
 /// None before a semicolon, or one and more behind commas.
-#[tactic(auto, unfolding(crate::specs::Acts::binds))]
+#[tactic(auto, unfolding(crate::specs::Binds::binds))]
 fn binds(alloc: Global, cursor: &mut Cursor) -> Result<List<PlainBind>, ReadFault>
     ensures { Reads result (rest cursor.new) (binds_of (rest cursor.old)) }
 {
@@ -81,7 +82,7 @@ fn binds(alloc: Global, cursor: &mut Cursor) -> Result<List<PlainBind>, ReadFaul
 }
 
 /// A register, then `(`, its binds and `;`.
-#[tactic(auto, unfolding(crate::specs::Acts::target))]
+#[tactic(auto, unfolding(crate::specs::Binds::target))]
 fn target(alloc: Global, cursor: &mut Cursor) -> Result<Target, ReadFault>
     ensures { Reads result (rest cursor.new) (target_of (rest cursor.old)) }
 {
@@ -93,7 +94,7 @@ fn target(alloc: Global, cursor: &mut Cursor) -> Result<Target, ReadFault>
 }
 
 /// A resource, `=` and a sum.
-#[tactic(auto, unfolding(crate::specs::Acts::amount))]
+#[tactic(auto, unfolding(crate::specs::Binds::amount))]
 fn amount(alloc: Global, cursor: &mut Cursor) -> Result<PlainAmount, ReadFault>
     ensures { Reads result (rest cursor.new) (amount_of (rest cursor.old)) }
 {
@@ -114,7 +115,7 @@ impl Listed for PlainAmount {
 impl Follows for PlainAmount {
     ghost follows = { next_amount };
 
-    #[tactic(auto, unfolding(crate::specs::Acts::next_amount))]
+    #[tactic(auto, unfolding(crate::specs::Binds::next_amount))]
     fn follow(alloc: Global, cursor: &mut Cursor) -> Result<Option<PlainAmount>, ReadFault> {
         if !cursor.takes_mark(Mark::Comma) {
             return Ok(None);
@@ -125,7 +126,7 @@ impl Follows for PlainAmount {
 }
 
 /// One amount, and more behind commas.
-#[tactic(auto, unfolding(crate::specs::Acts::amounts))]
+#[tactic(auto, unfolding(crate::specs::Binds::amounts))]
 fn amounts(alloc: Global, cursor: &mut Cursor) -> Result<List<PlainAmount>, ReadFault>
     ensures { Reads result (rest cursor.new) (amounts_of (rest cursor.old)) }
 {

@@ -2,7 +2,8 @@
 ghost use Rattle.std.specs.Prelude.{◌≡◌, drop, length, Option, option_map, Ok};
 ghost use Rattle.std.specs.Option.{option_copied};
 ghost use Rattle.rule_text.specs.declared.fault.ReadFault.TheVariants.{Stuck};
-ghost use Rattle.rule_text.specs.Readers.{Reader, Reads, rest, first, front, takes, pick, is_mark_next, is_word_next, sign_of, word_of, number_of, code_of, break_of, mark as mark_of, word as word_read, name as name_of, code_if as code_if_of, quoted as quoted_of, ends as ends_of, list_on as list_on_of, list_of as list_of_read};
+ghost use Rattle.rule_text.specs.Readers.{Reader, Reads, rest, takes, pick, mark as mark_of, word as word_read, name as name_of, code_if as code_if_of, quoted as quoted_of, ends as ends_of, list_on as list_on_of, list_of as list_of_read};
+ghost use Rattle.rule_text.specs.Fronts.{first, front, is_mark_next, is_word_next, sign_of, word_of, number_of, code_of, break_of};
 
 use crate::fault::ReadFault;
 use crate::{Lexeme, Literal, Mark, Spelling};

@@ -3,7 +3,8 @@ ghost use Rattle.std.specs.Prelude.{◌≡◌, option_and_then};
 ghost use Rattle.reg_base.specs.Results.{Gives};
 ghost use Rattle.rule_text.specs.Plain.{lone_field as lone_field_of, equality_of};
 ghost use Rattle.rule_text.specs.Readers.{Reads, rest};
-ghost use Rattle.rule_text.specs.Sentences.{test_of as test_of_mark, front_test as front_test_of, test as test_read, equality as equality_read, text_cond as text_cond_of, sums_cond as sums_cond_of, field_cond as field_cond_of, compared as compared_of, sum_cond as sum_cond_of, cond as cond_of, when as when_of, scope as scope_of, statement as statement_of, next_statement, statements as statements_read, statements_of};
+ghost use Rattle.rule_text.specs.Conditions.{test_of as test_of_mark, front_test as front_test_of, test as test_read, equality as equality_read, text_cond as text_cond_of, sums_cond as sums_cond_of, field_cond as field_cond_of, compared as compared_of, sum_cond as sum_cond_of, cond as cond_of, when as when_of};
+ghost use Rattle.rule_text.specs.Sentences.{scope as scope_of, statement as statement_of, next_statement, statements as statements_read, statements_of};
 ghost use Rattle.rule_text.specs.declared.fault.TextFault.TheVariants.{Memory as WantOfMemory};
 
 use crate::acts::act;
@@ -17,7 +18,7 @@ use crate::{
 use reg_base::{Code, List};
 use std::alloc::Global;
 
-#[tactic(auto, unfolding(crate::specs::Sentences::test_of))]
+#[tactic(auto, unfolding(crate::specs::Conditions::test_of))]
 fn test_of(mark: Mark) -> Option<Test>
     ensures { result ≡ test_of_mark mark }
 {
@@ -40,7 +41,7 @@ fn front_test(cursor: &Cursor) -> Option<Test>
 }
 
 /// A mark between sums.
-#[tactic(auto, unfolding(crate::specs::Sentences::test))]
+#[tactic(auto, unfolding(crate::specs::Conditions::test))]
 fn test(cursor: &mut Cursor) -> Result<Test, ReadFault>
     ensures { Reads result (rest cursor.new) (test_read (rest cursor.old)) }
 {
@@ -62,7 +63,7 @@ fn front_equality(cursor: &Cursor) -> Option<bool>
 }
 
 /// A mark between codes, `=` or `<>`: whether they have to be equal.
-#[tactic(auto, unfolding(crate::specs::Sentences::equality))]
+#[tactic(auto, unfolding(crate::specs::Conditions::equality))]
 fn equality(cursor: &mut Cursor) -> Result<bool, ReadFault>
     ensures { Reads result (rest cursor.new) (equality_read (rest cursor.old)) }
 {
@@ -76,7 +77,7 @@ fn equality(cursor: &mut Cursor) -> Result<bool, ReadFault>
 }
 
 /// A text is compared with a code.
-#[tactic(auto, unfolding(crate::specs::Sentences::text_cond))]
+#[tactic(auto, unfolding(crate::specs::Conditions::text_cond))]
 fn text_cond(cursor: &mut Cursor, text: Code) -> Result<PlainCond, ReadFault>
     ensures { Reads result (rest cursor.new) (text_cond_of text (rest cursor.old)) }
 {
@@ -90,7 +91,7 @@ fn text_cond(cursor: &mut Cursor, text: Code) -> Result<PlainCond, ReadFault>
 }
 
 /// A sum is compared with a sum.
-#[tactic(auto, unfolding(crate::specs::Sentences::sums_cond))]
+#[tactic(auto, unfolding(crate::specs::Conditions::sums_cond))]
 fn sums_cond(
     alloc: Global,
     cursor: &mut Cursor,
@@ -104,7 +105,7 @@ fn sums_cond(
 }
 
 /// A field that may have a code is compared with a text, where one follows, and else as a sum.
-#[tactic(auto, unfolding(crate::specs::Sentences::field_cond))]
+#[tactic(auto, unfolding(crate::specs::Conditions::field_cond))]
 fn field_cond(
     alloc: Global,
     cursor: &mut Cursor,
@@ -142,7 +143,7 @@ fn compared(
 }
 
 /// A condition that begins with a sum.
-#[tactic(auto, unfolding(crate::specs::Sentences::sum_cond))]
+#[tactic(auto, unfolding(crate::specs::Conditions::sum_cond))]
 fn sum_cond(alloc: Global, cursor: &mut Cursor) -> Result<PlainCond, ReadFault>
     ensures { Reads result (rest cursor.new) (sum_cond_of (rest cursor.old)) }
 {
@@ -152,7 +153,7 @@ fn sum_cond(alloc: Global, cursor: &mut Cursor) -> Result<PlainCond, ReadFault>
 }
 
 /// A condition: a text with a code, or a sum with what it can be compared with.
-#[tactic(auto, unfolding(crate::specs::Sentences::cond))]
+#[tactic(auto, unfolding(crate::specs::Conditions::cond))]
 fn cond(alloc: Global, cursor: &mut Cursor) -> Result<PlainCond, ReadFault>
     ensures { Reads result (rest cursor.new) (cond_of (rest cursor.old)) }
 {
@@ -163,7 +164,7 @@ fn cond(alloc: Global, cursor: &mut Cursor) -> Result<PlainCond, ReadFault>
 }
 
 /// `when` and a condition, if one follows.
-#[tactic(auto, unfolding(crate::specs::Sentences::when))]
+#[tactic(auto, unfolding(crate::specs::Conditions::when))]
 fn when(alloc: Global, cursor: &mut Cursor) -> Result<Option<PlainCond>, ReadFault>
     ensures { Reads result (rest cursor.new) (when_of (rest cursor.old)) }
 {

@@ -1,6 +1,6 @@
 //! Tokens: the words, numbers, codes and marks that a text of rules is made of.
 ghost use Rattle.std.specs.Prelude.{◌≡◌};
-ghost use Rattle.rule_text.specs.Readers.{is_spelt, sign_of, word_of, number_of, code_of, break_of};
+ghost use Rattle.rule_text.specs.Fronts.{is_spelt, sign_of, word_of, number_of, code_of, break_of};
 
 use crate::Mark;
 use reg_base::{Code, Name};

@@ -1,6 +1,6 @@
 use Rattle.std.proofs.Common.{◌≡◌, drop}
-use Rattle.rule_lang.specs.Terms.{first_scale}
-use Rattle.rule_lang.proofs.terms.first_scale.Given as goal
+use Rattle.rule_lang.specs.Conditions.{first_scale}
+use Rattle.rule_lang.proofs.conditions.first_scale.Given as goal
 
 abbrev pub invariant-terms : goal.invariant-terms
 invariant-terms l =
