@@ -1,4 +1,5 @@
 pub mod TokenLemmas
 pub mod ReaderLemmas
 pub mod SpellingLemmas
+pub mod PlainTexts
 mod WorkedRows
