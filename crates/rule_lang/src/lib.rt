@@ -35,6 +35,10 @@ mod sequences;
 mod spelt;
 mod statement;
 #[cfg(test)]
+mod sample_rows;
+#[cfg(test)]
+mod sample_tests;
+#[cfg(test)]
 mod syntax_rows;
 mod term_texts;
 mod terms;

@@ -120,7 +120,7 @@ fn told(alloc: Global, kind: &str, rules: &str) -> Option<String> {
     }
 }
 
-fn expect(rt: &impl Abort, alloc: Global, kind: &str, rules: &str, wanted: &str) {
+pub(crate) fn expect(rt: &impl Abort, alloc: Global, kind: &str, rules: &str, wanted: &str) {
     match told(alloc, kind, rules) {
         Some(text) => assert_eq!(rt; text.as_str(), wanted, "{rules}"),
         None => assert!(rt; false, "memory"),
