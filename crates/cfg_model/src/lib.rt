@@ -23,14 +23,6 @@ mod ledger;
 mod parents;
 mod register;
 mod sequence;
-#[cfg(test)]
-mod test_files;
-#[cfg(test)]
-mod test_shop;
-#[cfg(test)]
-mod test_told;
-#[cfg(test)]
-mod tests;
 mod walk;
 
 pub use account::{Account, Nature};

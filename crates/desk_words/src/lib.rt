@@ -17,16 +17,12 @@ mod laws;
 mod members;
 mod parsed;
 mod print;
-#[cfg(test)]
-mod print_tests;
 mod read;
 mod reply;
 mod reply_values;
 mod request;
 mod request_values;
 mod shapes;
-#[cfg(test)]
-mod tests;
 
 pub use fault::{Member, WordFault};
 pub use laws::requests_read_back;

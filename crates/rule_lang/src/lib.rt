@@ -24,26 +24,14 @@ mod fields;
 mod laws;
 mod least;
 mod makes;
-#[cfg(test)]
-mod meaning_rows;
 mod print;
-#[cfg(test)]
-mod printed_rows;
 mod requirements;
 mod rules;
 mod sequences;
 mod spelt;
 mod statement;
-#[cfg(test)]
-mod sample_rows;
-#[cfg(test)]
-mod sample_tests;
-#[cfg(test)]
-mod syntax_rows;
 mod term_texts;
 mod terms;
-#[cfg(test)]
-mod tests;
 mod write_offs;
 
 pub use fault::{RuleFault, RuleWhy};

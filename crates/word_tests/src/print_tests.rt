@@ -1,5 +1,5 @@
 //! Requests with their canonical texts.
-use crate::Request;
+use desk_words::Request;
 use std::alloc::Global;
 use std::test::Fail;
 

@@ -1,5 +1,5 @@
 //! A whole configuration with what it says, and entries of a small chart with what is told of them.
-use crate::EntryFault;
+use cfg_model::EntryFault;
 
 /// A configuration with each group: stock in lots and in sum, their sales, a ledger, a sequence.
 pub(crate) const WHOLE_SHOP: &str = r#"

@@ -1,5 +1,5 @@
 //! A configuration told in a line for each entry, as tests compare it.
-use crate::{
+use cfg_model::{
     Account, Chart, Clerk, Config, Dimension, Field, Kind, Nature, Register, Resource, Right,
     Sequence,
 };

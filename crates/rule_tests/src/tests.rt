@@ -1,10 +1,10 @@
 //! Short texts of rules are read, and their first fault is told.
-use crate::Rules;
 use crate::meaning_rows::{BINDS, CONDITIONS, NAMES, REGISTERS, SCOPES, SEQUENCES, TYPES};
 use crate::printed_rows::{PRINTED, SALE};
 use crate::syntax_rows::{ACTS, SUMS, WORDS};
 use cfg_model::{Chart, Config, Dimension, Field, Kind, Register, Resource, Sequence};
 use reg_base::{List, Name, Scale, Text};
+use rule_lang::Rules;
 use std::alloc::Global;
 use std::process::Abort;
 

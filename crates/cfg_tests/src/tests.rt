@@ -2,7 +2,7 @@
 use crate::test_files::{ACCOUNTS, DOCUMENTS, FILES, REGISTERS, SEQUENCES, SHOP};
 use crate::test_shop::{CHART, CHART_TOLD, ENTRIES, GivenSide, WHOLE_SHOP, WHOLE_SHOP_TOLD};
 use crate::test_told::told;
-use crate::{CfgFault, Chart, Config, EntryFault, check_entry};
+use cfg_model::{CfgFault, Chart, Config, EntryFault, check_entry};
 use reg_base::{Code, List, Memory, Name, Side};
 use std::alloc::{AllocError, Global};
 use std::process::Abort;

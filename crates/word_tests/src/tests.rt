@@ -1,6 +1,6 @@
 //! Lines with the faults that a reader of the rules expects, and replies byte by byte.
-use crate::{Answer, Field, Limit, RecordText, Refusal, Reply, Request};
 use cfg_model::{EntryFault, PostFault};
+use desk_words::{Answer, Field, Limit, RecordText, Refusal, Reply, Request};
 use reg_base::{Code, Cut, DocState, List, Mark, Scale, SumRow, Value};
 use reg_io::Line;
 use std::alloc::Global;

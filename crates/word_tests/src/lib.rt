@@ -1,0 +1,16 @@
+//! Tests of requests and replies: lines with what is told of them, byte by byte.
+//!
+//! Means: nothing; it has tests alone, apart from the crate that they try, since the tests of a
+//! crate have it proved a second time.
+//!
+//! Stands on: `desk_words`.
+//!
+//! Promises: what each test asks.
+//!
+//! Leaves open: all that no row speaks of.
+#![tactic(auto)]
+
+#[cfg(test)]
+mod print_tests;
+#[cfg(test)]
+mod tests;
