@@ -13,4 +13,6 @@
 #[cfg(test)]
 mod print_tests;
 #[cfg(test)]
+mod reply_tests;
+#[cfg(test)]
 mod tests;
