@@ -3,4 +3,8 @@ pub mod ReaderLemmas
 pub mod SpellingLemmas
 pub mod PlainTexts
 pub mod ReadTests
+pub mod SpeltTokens
+pub mod GivesLemmas
+pub mod SumReads
+pub mod StatementReads
 mod WorkedRows
