@@ -7,4 +7,6 @@ pub mod SpeltTokens
 pub mod GivesLemmas
 pub mod SumReads
 pub mod StatementReads
+pub mod TextTokens
+pub mod LexemeLemmas
 mod WorkedRows
