@@ -9,4 +9,12 @@ pub mod SumReads
 pub mod StatementReads
 pub mod TextTokens
 pub mod LexemeLemmas
+pub mod ReadBack
+pub mod TokensBack
+pub mod ListsBack
+pub mod SumsBack
+pub mod BindsBack
+pub mod ActsBack
+pub mod ConditionsBack
+pub mod StatementsBack
 mod WorkedRows
