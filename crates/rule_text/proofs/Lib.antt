@@ -17,4 +17,5 @@ pub mod BindsBack
 pub mod ActsBack
 pub mod ConditionsBack
 pub mod StatementsBack
+pub mod TextsReadBack
 mod WorkedRows
