@@ -1,23 +1,20 @@
 -- Acts are read back as they were written.
-use Rattle.std.proofs.Common.{◌≡◌, ℕ, suc, ◌+◌, ◌≤◌, ◌<◌, Bool, true, false, not, ◌&&◌, List, [], ◌∷◌, ◌++◌, length, slice_index, Option, Some, None, Ok, codes, arith, refl, sym, ap, ◌∙◌, append_assoc, subst}
+use Rattle.std.proofs.Common.{◌≡◌, ℕ, Bool, true, false, List, [], ◌∷◌, ◌++◌, Option, Some, None, codes, refl, append_assoc}
 use Rattle.std.proofs.lemmas.Bool.{and_parts}
 use Rattle.std.specs.List.{flat_map, list_all}
 use Rattle.reg_base.specs.Codes.{is_code, is_name}
 use Rattle.rule_text.specs.Marks.{mark_text}
-use Rattle.rule_text.specs.Readers.{Reader, ◌>>=◌, read_on, give, takes, list_of}
-use Rattle.rule_text.specs.Fronts.{sign_of, word_of, is_mark_next, is_word_next}
-use Rattle.rule_text.specs.Sums.{code, sum}
-use Rattle.rule_text.specs.Binds.{after_comma, target, amount, amounts}
+use Rattle.rule_text.specs.Fronts.{sign_of, is_mark_next, is_word_next}
+use Rattle.rule_text.specs.Sums.{code}
+use Rattle.rule_text.specs.Binds.{amount}
 use Rattle.rule_text.specs.Acts.{make, write_off, require, control, next_code, extra_codes, account_side, side, sides, entry, opening_of, act_of, verb, act}
 use Rattle.rule_text.specs.Tokens.{lexeme}
-use Rattle.rule_text.specs.declared.mark.Mark.{Mark}
 use Rattle.rule_text.specs.declared.mark.Mark.TheVariants.{Open, Close, Semicolon, Comma, AtLeast}
 use Rattle.rule_text.specs.declared.acts.Opening.{Opening}
 use Rattle.rule_text.specs.declared.acts.Opening.TheVariants.{Makes, WritesOff, Requires, Controls, Enters}
 use Rattle.rule_text.specs.declared.token.Spelling.{Spelling}
 use Rattle.rule_text.specs.declared.token.Spelling.TheVariants.{Named}
-use Rattle.rule_text.specs.declared.token.Token.{Token}
-use Rattle.rule_text.specs.declared.token.Token.TheVariants.{Word, Quoted, Sign}
+use Rattle.rule_text.specs.declared.token.Token.TheVariants.{Sign}
 use Rattle.rule_text.specs.declared.plain.PlainAct.{PlainAct}
 use Rattle.rule_text.specs.declared.plain.PlainAct.TheVariants.{Make, WriteOff, Require, Control, Entry}
 use Rattle.rule_text.specs.declared.plain.PlainAmount.{PlainAmount}
@@ -30,15 +27,14 @@ use Rattle.rule_text.specs.declared.plain.Target.{Target}
 use Rattle.rule_text.specs.declared.plain.Verb.{Verb}
 use Rattle.rule_text.specs.declared.plain.Verb.TheVariants.{Receipt, Expense, Turn}
 use Rattle.rule_text.proofs.PlainTexts.{joined, spelling_text, code_text, binds_text, amount_text, amounts_text, terms_text, verb_text, order_text, side_text, act_text, is_named, is_small, code_fits, target_fits, amount_fits, amounts_fit, terms_fit, side_fits, act_fits}
-use Rattle.rule_text.proofs.TextTokens.{tokens_at}
-use Rattle.rule_text.proofs.LexemeLemmas.{EndsPart}
-use Rattle.rule_text.proofs.ReadBack.{ReadsBack, TakesToken, Anything, Starts, starts_first, then_reads, then_gives, takes_first, takes_blank, behind_blank, reads_before, reads_nothing, reads_as, Begins, front-begins, begins-blank, NotNext, takes_nothing}
-use Rattle.rule_text.proofs.TokensBack.{EndsWord, is_word, is_mark, takes-token, begins-token, starts-token, reads_token, reads_mark, takes_mark, reads_word, takes_word, reads_name, reads_quoted, not_word, not_mark}
+use Rattle.rule_text.proofs.ReadBack.{ReadsBack, Anything, starts_first, then_reads, then_gives, behind_blank, reads_before, before_less, reads_nothing, reads_as, Begins, front-begins, begins-blank, takes_nothing}
+use Rattle.rule_text.proofs.TokensBack.{EndsWord, is_word, is_mark, begins-token, reads_token, reads_mark, reads_word, takes_word, reads_name, reads_quoted, not_word, not_mark}
 use Rattle.rule_text.proofs.ListsBack.{ReadsMore, may_follow, reads_list_of}
 use Rattle.rule_text.proofs.SumsBack.{reads_code, reads_sum, EndsSum, ends_blank}
 use Rattle.rule_text.proofs.BindsBack.{code_token, starts_code, EndsList, reads_after_comma, target_text, reads_target, ends_sum, reads_amount, sum_before_comma, reads_amounts}
 
-reads_more_codes : ReadsMore EndsWord (EndsList EndsWord) next_code (λ x. codes ", " ++ code_text x) code_fits
+reads_more_codes : ReadsMore EndsWord (EndsList EndsWord) next_code
+    (λ x. codes ", " ++ code_text x) code_fits
 unfolding next_code
 reads_more_codes = reads_after_comma code code_text code_fits reads_code (λ rest. refl)
 
@@ -71,7 +67,8 @@ reads_extras (x ∷ xs) fit =
     let more = flat_map (λ y. codes ", " ++ code_text y) xs in
     let starts = starts_first {ends = EndsExtras} more (starts_code x parts.0)
     (λ rest end. may_follow reads_more_codes xs rest (extras_end rest end)) in
-    reads_as extra_codes (reads_before (reads_list_of (reads_code x parts.0) reads_more_codes xs parts.1) extras_end)
+    let all = reads_list_of (reads_code x parts.0) reads_more_codes xs parts.1 in
+    reads_as extra_codes (reads_before all extras_end)
     (λ place rest end. rw (not_mark (starts.begins rest end) Close (not_close x) place) refl)
 
 abbrev account_text : PlainSide → List ℕ
@@ -83,10 +80,10 @@ unfolding account_side mark_text
 reads_account x account extras =
     then_reads _ (reads_code x.account account)
     (then_reads _ (reads_mark Open)
-      (then_reads _ (reads_extras x.extras extras)
-        (then_gives _ (reads_mark Close) (λ tokens. refl))
-        (λ rest end. record { word = refl; close = begins-token (is_mark Close) rest tt }))
-      (λ rest end. tt))
+    (then_reads _ (reads_extras x.extras extras)
+    (then_gives _ (reads_mark Close) (λ tokens. refl))
+    (λ rest end. record { word = refl; close = begins-token (is_mark Close) rest tt }))
+    (λ rest end. tt))
     (λ rest end. refl)
 
 not_none : (x : PlainCode) → is_word_next (codes "none") (lexeme 0 0 (code_token x) ∷ []) ≡ false
@@ -96,14 +93,16 @@ not_none (HeadCode spelling) = refl
 not_none (LineCode spelling) = refl
 
 -- a side of an entry
-pub reads_side : (x : Option PlainSide) → side_fits x ≡ true → ReadsBack EndsWord side (side_text x) x
+pub reads_side : (x : Option PlainSide) → side_fits x ≡ true
+    → ReadsBack EndsWord side (side_text x) x
 unfolding side side_text side_fits is_name
 reads_side None fits = then_gives _ (takes_word (codes "none") refl) (λ tokens. refl)
 reads_side (Some x) fits =
     let parts = and_parts (code_fits x.account) (list_all code_fits x.extras) fits in
-    let starts = starts_first {ends = EndsWord} _ (starts_code x.account parts.0) (λ rest end. refl) in
+    let starts =
+    starts_first {ends = EndsWord} _ (starts_code x.account parts.0) (λ rest end. refl) in
     then_reads _ (takes_nothing (is_word_next (codes "none")))
-    (reads_before (reads_account x parts.0 parts.1) (λ rest (end : EndsWord rest). tt))
+    (before_less (reads_account x parts.0 parts.1))
     (λ rest end. not_word (starts.begins rest end) (codes "none") (not_none x.account))
 
 -- both sides of an entry
@@ -117,12 +116,12 @@ unfolding sides sides_text mark_text is_name
 reads_sides x debit credit =
     then_reads _ (reads_word (codes "debit") refl)
     (then_reads _ (behind_blank (reads_side x.debit debit))
-      (then_reads _ (reads_mark Comma)
-        (then_reads _ (behind_blank (reads_word (codes "credit") refl))
-          (then_gives _ (behind_blank (reads_side x.credit credit)) (λ tokens. refl))
-          (λ rest end. refl))
-        (λ rest end. tt))
-      (λ rest end. refl))
+    (then_reads _ (reads_mark Comma)
+    (then_reads _ (behind_blank (reads_word (codes "credit") refl))
+    (then_gives _ (behind_blank (reads_side x.credit credit)) (λ tokens. refl))
+    (λ rest end. refl))
+    (λ rest end. tt))
+    (λ rest end. refl))
     (λ rest end. refl)
 
 sum_before_close : (rest : List ℕ) → EndsSum (codes ")" ++ rest)
@@ -139,14 +138,15 @@ amounts_before_close rest = record {
 
 reads_make : (kind : Verb) (to : Target) (sums : List PlainAmount) → target_fits to ≡ true
     → amounts_fit is_small sums ≡ true
-    → ReadsBack Anything (make kind) (target_text to ++ (codes " " ++ (amounts_text sums ++ codes ")")))
+    → ReadsBack Anything (make kind)
+    (target_text to ++ (codes " " ++ (amounts_text sums ++ codes ")")))
     (Make kind to sums)
 unfolding make mark_text
 reads_make kind to sums target_fit sums_fit =
     then_reads _ (reads_target to target_fit)
     (then_reads _ (behind_blank (reads_amounts sums sums_fit))
-      (then_gives _ (reads_mark Close) (λ tokens. refl))
-      (λ rest end. amounts_before_close rest))
+    (then_gives _ (reads_mark Close) (λ tokens. refl))
+    (λ rest end. amounts_before_close rest))
     (λ rest end. tt)
 
 reads_write_off : (fifo : Bool) (to : Target) (wanted : PlainAmount) (cost : Spelling)
@@ -157,37 +157,40 @@ unfolding write_off mark_text
 reads_write_off fifo to wanted cost target_fit wanted_fits named =
     then_reads _ (reads_target to target_fit)
     (then_reads _ (behind_blank (reads_amount wanted wanted_fits))
-      (then_reads _ (reads_mark Comma)
-        (then_reads _ (behind_blank (reads_name cost named))
-          (then_gives _ (reads_mark Close) (λ tokens. refl))
-          (λ rest end. refl))
-        (λ rest end. tt))
-      (λ rest end. sum_before_comma (spelling_text cost ++ codes ")" ++ rest)))
+    (then_reads _ (reads_mark Comma)
+    (then_reads _ (behind_blank (reads_name cost named))
+    (then_gives _ (reads_mark Close) (λ tokens. refl))
+    (λ rest end. refl))
+    (λ rest end. tt))
+    (λ rest end. sum_before_comma (spelling_text cost ++ codes ")" ++ rest)))
     (λ rest end. tt)
 
 sum_before_code : (rest : List ℕ) → EndsSum (codes " code " ++ rest)
 unfolding is_name
 sum_before_code rest =
-    ends_sum (begins-blank (begins-token (is_word (codes "code") refl) (32 ∷ rest) refl)) (ends_blank _) refl refl
+    let begins = begins-token (is_word (codes "code") refl) (32 ∷ rest) refl in
+    ends_sum (begins-blank begins) (ends_blank _) refl refl
 
 reads_require : (to : Target) (resource : Spelling) (least : List PlainTerm) (text : List ℕ)
-    → target_fits to ≡ true → is_named resource ≡ true → terms_fit is_small least ≡ true → is_code text ≡ true
-    → ReadsBack Anything require (target_text to ++ (codes " " ++ (spelling_text resource ++ (codes ") >= "
-    ++ (terms_text least ++ (codes " code \"" ++ (text ++ codes "\""))))))) (Require to resource least text)
+    → target_fits to ≡ true → is_named resource ≡ true → terms_fit is_small least ≡ true
+    → is_code text ≡ true
+    → ReadsBack Anything require (target_text to ++ (codes " " ++ (spelling_text resource
+    ++ (codes ") >= " ++ (terms_text least ++ (codes " code \"" ++ (text ++ codes "\"")))))))
+    (Require to resource least text)
 unfolding require mark_text is_name
 reads_require to resource least text target_fit named least_fits coded =
     then_reads _ (reads_target to target_fit)
     (then_reads _ (behind_blank (reads_name resource named))
-      (then_reads _ (reads_mark Close)
-        (then_reads _ (behind_blank (reads_mark AtLeast))
-          (then_reads _ (behind_blank (reads_sum least least_fits))
-            (then_reads _ (behind_blank (reads_word (codes "code") refl))
-              (then_gives _ (behind_blank (reads_quoted text coded)) (λ tokens. refl))
-              (λ rest end. refl))
-            (λ rest end. sum_before_code _))
-          (λ rest end. tt))
-        (λ rest end. tt))
-      (λ rest end. refl))
+    (then_reads _ (reads_mark Close)
+    (then_reads _ (behind_blank (reads_mark AtLeast))
+    (then_reads _ (behind_blank (reads_sum least least_fits))
+    (then_reads _ (behind_blank (reads_word (codes "code") refl))
+    (then_gives _ (behind_blank (reads_quoted text coded)) (λ tokens. refl))
+    (λ rest end. refl))
+    (λ rest end. sum_before_code _))
+    (λ rest end. tt))
+    (λ rest end. tt))
+    (λ rest end. refl))
     (λ rest end. tt)
 
 reads_control : (register resource : Spelling) → is_named register ≡ true → is_named resource ≡ true
@@ -204,25 +207,28 @@ unfolding mark_text
 sum_before_semicolon rest = ends_sum (begins-token (is_mark Semicolon) rest tt)
     (record { no_word = refl; no_point = refl }) refl refl
 
-reads_entry : (ledger : Spelling) (both_sides : PlainSides) (amount : List PlainTerm) → is_named ledger ≡ true
-    → side_fits both_sides.debit ≡ true → side_fits both_sides.credit ≡ true → terms_fit is_small amount ≡ true
-    → ReadsBack Anything entry (spelling_text ledger ++ (codes "(" ++ (sides_text both_sides
-    ++ (codes "; " ++ (terms_text amount ++ codes ")"))))) (Entry ledger both_sides amount)
+reads_entry : (ledger : Spelling) (written : PlainSides) (amount : List PlainTerm)
+    → is_named ledger ≡ true
+    → side_fits written.debit ≡ true → side_fits written.credit ≡ true
+    → terms_fit is_small amount ≡ true
+    → ReadsBack Anything entry (spelling_text ledger ++ (codes "(" ++ (sides_text written
+    ++ (codes "; " ++ (terms_text amount ++ codes ")"))))) (Entry ledger written amount)
 unfolding entry mark_text
-reads_entry ledger both_sides amount named debit credit fits =
+reads_entry ledger written amount named debit credit fits =
     then_reads _ (reads_name ledger named)
     (then_reads _ (reads_mark Open)
-      (then_reads _ (reads_sides both_sides debit credit)
-        (then_reads _ (reads_mark Semicolon)
-          (then_reads _ (behind_blank (reads_sum amount fits))
-            (then_gives _ (reads_mark Close) (λ tokens. refl))
-            (λ rest end. sum_before_close rest))
-          (λ rest end. tt))
-        (λ rest end. refl))
-      (λ rest end. tt))
+    (then_reads _ (reads_sides written debit credit)
+    (then_reads _ (reads_mark Semicolon)
+    (then_reads _ (behind_blank (reads_sum amount fits))
+    (then_gives _ (reads_mark Close) (λ tokens. refl))
+    (λ rest end. sum_before_close rest))
+    (λ rest end. tt))
+    (λ rest end. refl))
+    (λ rest end. tt))
     (λ rest end. refl)
 
-reads_verb : (text : List ℕ) → is_name text ≡ true → (opening : Opening) → opening_of (Named text) ≡ Some opening
+reads_verb : (text : List ℕ) → is_name text ≡ true → (opening : Opening)
+    → opening_of (Named text) ≡ Some opening
     → ReadsBack EndsWord verb text opening
 unfolding verb
 reads_verb text named opening opens =
@@ -247,11 +253,12 @@ unfolding target_text
 target_before to more = simp append_assoc
 
 -- sides in front of more
-sides_before : (both_sides : PlainSides) (more : List ℕ)
-    → codes "debit " ++ (side_text both_sides.debit ++ (codes ", credit " ++ (side_text both_sides.credit ++ more)))
-    ≡ sides_text both_sides ++ more
+sides_before : (written : PlainSides) (more : List ℕ)
+    → codes "debit "
+    ++ (side_text written.debit ++ (codes ", credit " ++ (side_text written.credit ++ more)))
+    ≡ sides_text written ++ more
 unfolding sides_text
-sides_before both_sides more = simp append_assoc
+sides_before written more = simp append_assoc
 
 -- an act
 pub reads_act : (x : PlainAct) → act_fits is_small x ≡ true → ReadsBack EndsWord act (act_text x) x
@@ -259,30 +266,32 @@ unfolding act act_of act_text act_fits opening_of is_name
 reads_act (Make kind to sums) fits =
     let parts = and_parts (target_fits to) (amounts_fit is_small sums) fits in
     rw target_before (then_reads _ (reads_making kind)
-      (behind_blank (reads_before (reads_make kind to sums parts.0 parts.1) (λ rest (end : EndsWord rest). tt)))
-      (λ rest end. refl))
+    (behind_blank (before_less (reads_make kind to sums parts.0 parts.1)))
+    (λ rest end. refl))
 reads_act (WriteOff fifo to wanted cost) fits =
     let parts = and_parts (target_fits to) _ fits in
     let others = and_parts (amount_fits is_small wanted) (is_named cost) parts.1 in
     rw target_before (then_reads _ (reads_writing_off fifo)
-      (behind_blank (reads_before (reads_write_off fifo to wanted cost parts.0 others.0 others.1) (λ rest (end : EndsWord rest). tt)))
-      (λ rest end. refl))
+    (behind_blank (before_less (reads_write_off fifo to wanted cost parts.0 others.0 others.1)))
+    (λ rest end. refl))
 reads_act (Require to resource least text) fits =
     let parts = and_parts (target_fits to) _ fits in
     let others = and_parts (is_named resource) _ parts.1 in
     let last = and_parts (terms_fit is_small least) (is_code text) others.1 in
     rw target_before (then_reads _ (reads_verb (codes "require") refl Requires refl)
-      (behind_blank (reads_before (reads_require to resource least text parts.0 others.0 last.0 last.1) (λ rest (end : EndsWord rest). tt)))
-      (λ rest end. refl))
+    (behind_blank (before_less
+    (reads_require to resource least text parts.0 others.0 last.0 last.1)))
+    (λ rest end. refl))
 reads_act (Control register resource) fits =
     let parts = and_parts (is_named register) (is_named resource) fits in
     then_reads _ (reads_verb (codes "control") refl Controls refl)
     (behind_blank (reads_control register resource parts.0 parts.1))
     (λ rest end. refl)
-reads_act (Entry ledger both_sides amount) fits =
+reads_act (Entry ledger written amount) fits =
     let parts = and_parts (is_named ledger) _ fits in
-    let others = and_parts (side_fits both_sides.debit) _ parts.1 in
-    let last = and_parts (side_fits both_sides.credit) (terms_fit is_small amount) others.1 in
+    let others = and_parts (side_fits written.debit) _ parts.1 in
+    let last = and_parts (side_fits written.credit) (terms_fit is_small amount) others.1 in
     rw sides_before (then_reads _ (reads_verb (codes "entry") refl Enters refl)
-      (behind_blank (reads_before (reads_entry ledger both_sides amount parts.0 others.0 last.0 last.1) (λ rest (end : EndsWord rest). tt)))
-      (λ rest end. refl))
+    (behind_blank (before_less
+    (reads_entry ledger written amount parts.0 others.0 last.0 last.1)))
+    (λ rest end. refl))

@@ -1,20 +1,16 @@
 -- Conditions are read back as they were written.
-use Rattle.std.proofs.Common.{◌≡◌, ℕ, suc, ◌+◌, ◌≤◌, ◌<◌, Bool, true, false, not, ◌&&◌, List, [], ◌∷◌, ◌++◌, length, slice_index, Option, Some, None, Ok, codes, arith, refl, sym, ap, ◌∙◌, append_assoc, append-nil, subst}
+use Rattle.std.proofs.Common.{◌≡◌, ℕ, Bool, true, false, not, List, [], ◌∷◌, ◌++◌, slice_index, Option, Some, None, codes, refl, append_assoc, append-nil}
 use Rattle.std.proofs.lemmas.Bool.{and_parts}
-use Rattle.std.specs.List.{flat_map, list_all}
+use Rattle.std.specs.List.{flat_map}
 use Rattle.reg_base.specs.Codes.{is_code, is_name}
 use Rattle.rule_text.specs.Marks.{mark_text}
 use Rattle.rule_text.specs.Plain.{code_of_part, lone_field, equality_of}
-use Rattle.rule_text.specs.Readers.{Reader, ◌>>=◌, read_on, give, takes, code_if}
-use Rattle.rule_text.specs.Fronts.{sign_of, word_of, code_of, break_of, is_mark_next, is_word_next}
-use Rattle.rule_text.specs.Sums.{code, sum}
+use Rattle.rule_text.specs.Fronts.{code_of, break_of, is_mark_next, is_word_next}
+use Rattle.rule_text.specs.Sums.{sum}
 use Rattle.rule_text.specs.Conditions.{test_of, test, equality, text_cond, sums_cond, field_cond, compared, sum_cond, cond, when}
 use Rattle.rule_text.specs.Tokens.{is_blank, lexeme}
-use Rattle.rule_text.specs.declared.mark.Mark.{Mark}
 use Rattle.rule_text.specs.declared.mark.Mark.TheVariants.{Minus as MinusMark, Plus as PlusMark, Equal as EqualMark, Less as LessMark, AtMost as AtMostMark, AtLeast as AtLeastMark, Greater as GreaterMark, Differs as DiffersMark}
-use Rattle.rule_text.specs.declared.token.Spelling.{Spelling}
 use Rattle.rule_text.specs.declared.token.Token.{Token}
-use Rattle.rule_text.specs.declared.token.Token.TheVariants.{Sign}
 use Rattle.rule_text.specs.declared.plain.PlainCode.{PlainCode}
 use Rattle.rule_text.specs.declared.plain.PlainCode.TheVariants.{Text, Head as HeadCode, Line as LineCode}
 use Rattle.rule_text.specs.declared.plain.PlainCond.{PlainCond}
@@ -24,11 +20,11 @@ use Rattle.rule_text.specs.declared.plain.PlainPart.TheVariants.{Number, Head, L
 use Rattle.rule_text.specs.declared.plain.PlainTerm.{PlainTerm}
 use Rattle.rule_text.specs.declared.plain.Test.{Test}
 use Rattle.rule_text.specs.declared.plain.Test.TheVariants.{Less, AtMost, Equal, AtLeast, Greater, Differs}
-use Rattle.rule_text.proofs.PlainTexts.{spelling_text, code_text, part_text, sign_text, term_text, joint_text, terms_text, test_text, equal_text, cond_text, when_text, is_named, is_small, code_fits, part_fits, terms_fit, has_text, cond_fits, when_fits}
-use Rattle.rule_text.proofs.LexemeLemmas.{EndsPart, EndsMark, quoted_text}
-use Rattle.rule_text.proofs.ReadBack.{ReadsBack, Anything, then_reads, then_gives, behind_blank, reads_before, Begins, begins-blank, NotNext, takes_nothing}
-use Rattle.rule_text.proofs.TokensBack.{EndsWord, is_word, is_mark, is_quoted, begins-token, reads_token, takes_word, reads_code_if, NoCode, no_code_if, no_code_next, not_word}
-use Rattle.rule_text.proofs.ListsBack.{ReadsMore, may_follow}
+use Rattle.rule_text.proofs.PlainTexts.{code_text, part_text, sign_text, term_text, joint_text, terms_text, test_text, equal_text, cond_text, when_text, is_named, is_small, code_fits, part_fits, terms_fit, cond_fits, when_fits}
+use Rattle.rule_text.proofs.LexemeLemmas.{EndsPart, quoted_text}
+use Rattle.rule_text.proofs.ReadBack.{ReadsBack, Anything, then_reads, then_gives, behind_blank, reads_before, before_less, Begins, begins-blank, NotNext, takes_nothing_before}
+use Rattle.rule_text.proofs.TokensBack.{EndsWord, is_mark, begins-token, reads_token, takes_word, reads_code_if, NoCode, no_code_if, no_code_next}
+use Rattle.rule_text.proofs.ListsBack.{may_follow}
 use Rattle.rule_text.proofs.SumsBack.{part_token, begins_part, begins_owner, reads_code, EndsSum, ends_blank, reads_more_terms, reads_sum}
 use Rattle.rule_text.proofs.BindsBack.{ends_sum}
 
@@ -41,34 +37,41 @@ unfolding test test_of test_text mark_text
 reads_test Less = reads_token (is_mark LessMark) test Less (λ place len tokens. refl)
 reads_test Greater = reads_token (is_mark GreaterMark) test Greater (λ place len tokens. refl)
 reads_test AtMost =
-    reads_before (reads_token (is_mark AtMostMark) test AtMost (λ place len tokens. refl)) (λ rest end. tt)
+    before_less (reads_token (is_mark AtMostMark) test AtMost (λ place len tokens. refl))
 reads_test AtLeast =
-    reads_before (reads_token (is_mark AtLeastMark) test AtLeast (λ place len tokens. refl)) (λ rest end. tt)
+    before_less (reads_token (is_mark AtLeastMark) test AtLeast (λ place len tokens. refl))
 reads_test Equal =
-    reads_before (reads_token (is_mark EqualMark) test Equal (λ place len tokens. refl)) (λ rest end. tt)
+    before_less (reads_token (is_mark EqualMark) test Equal (λ place len tokens. refl))
 reads_test Differs =
-    reads_before (reads_token (is_mark DiffersMark) test Differs (λ place len tokens. refl)) (λ rest end. tt)
+    before_less (reads_token (is_mark DiffersMark) test Differs (λ place len tokens. refl))
 
 reads_equality : (equal : Bool) → ReadsBack Anything equality (equal_text equal) equal
 unfolding equality equality_of test_of mark_text
 reads_equality true = reads_token (is_mark EqualMark) equality true (λ place len tokens. refl)
 reads_equality false = reads_token (is_mark DiffersMark) equality false (λ place len tokens. refl)
 
+before_test : {token : Token} {rest : List ℕ} → Begins token rest
+    → is_mark_next PlusMark (lexeme 0 0 token ∷ []) ≡ false
+    → is_mark_next MinusMark (lexeme 0 0 token ∷ []) ≡ false → EndsSum (32 ∷ rest)
+before_test {rest = rest} begins plus minus =
+    ends_sum (begins-blank begins) (ends_blank rest) plus minus
+
 -- a sum goes on neither with a test nor with what stands behind it
-sum_before_test : (x : Test) (rest : List ℕ) → EndsSum (codes " " ++ (test_text x ++ (codes " " ++ rest)))
+sum_before_test : (x : Test) (rest : List ℕ)
+    → EndsSum (codes " " ++ (test_text x ++ (codes " " ++ rest)))
 unfolding test_text mark_text
 sum_before_test Less rest =
-    ends_sum (begins-blank (begins-token (is_mark LessMark) (32 ∷ rest) refl)) (ends_blank _) refl refl
+    before_test (begins-token (is_mark LessMark) (32 ∷ rest) refl) refl refl
 sum_before_test Greater rest =
-    ends_sum (begins-blank (begins-token (is_mark GreaterMark) (32 ∷ rest) refl)) (ends_blank _) refl refl
+    before_test (begins-token (is_mark GreaterMark) (32 ∷ rest) refl) refl refl
 sum_before_test AtMost rest =
-    ends_sum (begins-blank (begins-token (is_mark AtMostMark) (32 ∷ rest) tt)) (ends_blank _) refl refl
+    before_test (begins-token (is_mark AtMostMark) (32 ∷ rest) tt) refl refl
 sum_before_test AtLeast rest =
-    ends_sum (begins-blank (begins-token (is_mark AtLeastMark) (32 ∷ rest) tt)) (ends_blank _) refl refl
+    before_test (begins-token (is_mark AtLeastMark) (32 ∷ rest) tt) refl refl
 sum_before_test Equal rest =
-    ends_sum (begins-blank (begins-token (is_mark EqualMark) (32 ∷ rest) tt)) (ends_blank _) refl refl
+    before_test (begins-token (is_mark EqualMark) (32 ∷ rest) tt) refl refl
 sum_before_test Differs rest =
-    ends_sum (begins-blank (begins-token (is_mark DiffersMark) (32 ∷ rest) tt)) (ends_blank _) refl refl
+    before_test (begins-token (is_mark DiffersMark) (32 ∷ rest) tt) refl refl
 
 no_code_part : (x : PlainPart) → code_of (part_token x) ≡ None
 unfolding part_token
@@ -101,15 +104,18 @@ no_code_sum [] fit rest end = absurd (cc)
 no_code_sum (x ∷ xs) fit rest end =
     let parts = and_parts (not x.minus) _ fit in
     let others = and_parts (part_fits is_small x.part) _ parts.1 in
-    let more = flat_map (λ y. joint_text y.minus ++ term_text y) xs ++ rest in
-    rw append_assoc (no_code_signed x.negative x.part others.0 more (may_follow reads_more_terms xs rest end))
+    let more = flat_map (λ y. joint_text y.minus ++ term_text y) xs in
+    rw (append_assoc (sign_text x.negative ++ part_text x.part) more rest)
+    (no_code_signed x.negative x.part others.0 (more ++ rest)
+    (may_follow reads_more_terms xs rest end))
 
 reads_sums : (left right : List PlainTerm) (by : Test) → terms_fit is_small right ≡ true
     → ReadsBack EndsSum (sums_cond left by) (terms_text right) (Sums left by right)
 unfolding sums_cond
 reads_sums left right by fits = then_gives _ (reads_sum right fits) (λ tokens. refl)
 
-reads_compared : (field : Option PlainCode) (equal : Option Bool) (left right : List PlainTerm) (by : Test)
+reads_compared : (field : Option PlainCode) (equal : Option Bool) (left right : List PlainTerm)
+    → (by : Test)
     → terms_fit is_small right ≡ true
     → ReadsBack EndsSum (compared field equal left by) (terms_text right) (Sums left by right)
 unfolding field_cond
@@ -121,13 +127,14 @@ reads_compared None equal left right by fits = reads_sums left right by fits
 reads_sum_cond : (left right : List PlainTerm) (by : Test) → terms_fit is_small left ≡ true
     → terms_fit is_small right ≡ true
     → ReadsBack EndsSum sum_cond
-    (terms_text left ++ (codes " " ++ (test_text by ++ (codes " " ++ terms_text right)))) (Sums left by right)
+    (terms_text left ++ (codes " " ++ (test_text by ++ (codes " " ++ terms_text right))))
+    (Sums left by right)
 unfolding sum_cond
 reads_sum_cond left right by left_fits right_fits =
     then_reads _ (reads_sum left left_fits)
     (then_reads _ (behind_blank (reads_test by))
-      (behind_blank (reads_compared (lone_field left) (equality_of by) left right by right_fits))
-      (λ rest end. refl))
+    (behind_blank (reads_compared (lone_field left) (equality_of by) left right by right_fits))
+    (λ rest end. refl))
     (λ rest end. rw append_assoc (sum_before_test by (terms_text right ++ rest)))
 
 -- the test for equality, or that for difference
@@ -149,7 +156,8 @@ equality_of-test false = refl
 abbrev lone : PlainPart → List PlainTerm
 lone x = record { minus = false; negative = false; part = x } ∷ []
 
-reads_lone : (x : PlainPart) → part_fits is_small x ≡ true → ReadsBack EndsSum sum (part_text x) (lone x)
+reads_lone : (x : PlainPart) → part_fits is_small x ≡ true
+    → ReadsBack EndsSum sum (part_text x) (lone x)
 unfolding terms_text terms_fit term_text
 reads_lone x fits =
     let fit : terms_fit is_small (lone x) ≡ true = rw fits refl in
@@ -157,30 +165,34 @@ reads_lone x fits =
 
 reads_text_behind : (field : PlainCode) (equal : Bool) (x : PlainPart) (by : Test) (text : List ℕ)
     → code_of_part x ≡ Some field → equality_of by ≡ Some equal → is_code text ≡ true
-    → ReadsBack Anything (compared (lone_field (lone x)) (equality_of by) (lone x) by) (quoted_text text)
-    (Codes field equal (Text text))
+    → ReadsBack Anything (compared (lone_field (lone x)) (equality_of by) (lone x) by)
+    (quoted_text text) (Codes field equal (Text text))
 unfolding lone_field field_cond
 reads_text_behind field equal x by text is asks coded =
     rw (is, asks) (then_gives _ (reads_code_if text coded) (λ tokens. refl))
 
 reads_field_cond : (field : PlainCode) (equal : Bool) (x : PlainPart) (text : List ℕ)
     → code_of_part x ≡ Some field → part_fits is_small x ≡ true → is_code text ≡ true
-    → ReadsBack Anything sum_cond (part_text x ++ (codes " " ++ (equal_text equal ++ (codes " " ++ quoted_text text))))
+    → ReadsBack Anything sum_cond
+    (part_text x ++ (codes " " ++ (equal_text equal ++ (codes " " ++ quoted_text text))))
     (Codes field equal (Text text))
 unfolding sum_cond
 reads_field_cond field equal x text is fits coded =
+    let by = equality_test equal in
+    let behind = reads_text_behind field equal x by text is (equality_of-test equal) coded in
     rw (← (test_text-equality equal)) (then_reads _ (reads_lone x fits)
-      (then_reads _ (behind_blank (reads_test (equality_test equal)))
-        (behind_blank (reads_text_behind field equal x (equality_test equal) text is (equality_of-test equal) coded))
-        (λ rest end. refl))
-      (λ rest end. rw append_assoc (sum_before_test (equality_test equal) (quoted_text text ++ rest))))
+    (then_reads _ (behind_blank (reads_test by)) (behind_blank behind) (λ rest end. refl))
+    (λ rest end. rw append_assoc (sum_before_test by (quoted_text text ++ rest))))
 
-no_code_sides : (left : List PlainTerm) → terms_fit is_small left ≡ true → (by : Test) (right rest : List ℕ)
+no_code_sides : (left : List PlainTerm) → terms_fit is_small left ≡ true
+    → (by : Test) (right rest : List ℕ)
     → NoCode ((terms_text left ++ (codes " " ++ (test_text by ++ (codes " " ++ right)))) ++ rest)
 no_code_sides left fits by right rest =
-    let behind : (test_text by ++ (codes " " ++ right)) ++ rest ≡ test_text by ++ (codes " " ++ (right ++ rest)) =
-    append_assoc (test_text by) (codes " " ++ right) rest in
-    rw (append_assoc (terms_text left) (codes " " ++ (test_text by ++ (codes " " ++ right))) rest, behind)
+    let back = codes " " ++ right in
+    rw (
+      append_assoc (terms_text left) (codes " " ++ (test_text by ++ back)) rest,
+      append_assoc (test_text by) back rest,
+    )
     (no_code_sum left fits _ (sum_before_test by (right ++ rest)))
 
 reads_text_cond : (text : List ℕ) (equal : Bool) (right : PlainCode) → is_code text ≡ true
@@ -192,12 +204,13 @@ unfolding cond text_cond
 reads_text_cond text equal right coded fits =
     then_reads _ (reads_code_if text coded)
     (then_reads _ (behind_blank (reads_equality equal))
-      (then_gives _ (behind_blank (reads_code right fits)) (λ tokens. refl))
-      (λ rest end. tt))
+    (then_gives _ (behind_blank (reads_code right fits)) (λ tokens. refl))
+    (λ rest end. tt))
     (λ rest end. tt)
 
 -- a condition
-pub reads_cond : (x : PlainCond) → cond_fits is_small x ≡ true → ReadsBack EndsSum cond (cond_text x) x
+pub reads_cond : (x : PlainCond) → cond_fits is_small x ≡ true
+    → ReadsBack EndsSum cond (cond_text x) x
 unfolding cond cond_text cond_fits code_text code_fits part_text part_fits is_name
 reads_cond (Sums left by right) fits =
     let parts = and_parts (terms_fit is_small left) (terms_fit is_small right) fits in
@@ -205,18 +218,19 @@ reads_cond (Sums left by right) fits =
     (λ rest end. no_code_sides left parts.0 by (terms_text right) rest)
 reads_cond (Codes (Text text) equal right) fits =
     let parts = and_parts (is_code text) (code_fits right) fits in
-    reads_before (reads_text_cond text equal right parts.0 parts.1) (λ rest (end : EndsSum rest). end.part.no_word)
+    reads_before (reads_text_cond text equal right parts.0 parts.1)
+    (λ rest (end : EndsSum rest). end.part.no_word)
 reads_cond (Codes (HeadCode spelling) equal (Text text)) fits =
     let parts = and_parts (is_named spelling) (is_code text) fits in
     then_reads _ no_code_if
-    (reads_before (reads_field_cond (HeadCode spelling) equal (Head spelling) text refl parts.0 parts.1)
-      (λ rest (end : EndsSum rest). tt))
+    (before_less
+    (reads_field_cond (HeadCode spelling) equal (Head spelling) text refl parts.0 parts.1))
     (λ rest end. no_code_next (begins_owner (codes "head") refl _) refl refl)
 reads_cond (Codes (LineCode spelling) equal (Text text)) fits =
     let parts = and_parts (is_named spelling) (is_code text) fits in
     then_reads _ no_code_if
-    (reads_before (reads_field_cond (LineCode spelling) equal (Line spelling) text refl parts.0 parts.1)
-      (λ rest (end : EndsSum rest). tt))
+    (before_less
+    (reads_field_cond (LineCode spelling) equal (Line spelling) text refl parts.0 parts.1))
     (λ rest end. no_code_next (begins_owner (codes "line") refl _) refl refl)
 reads_cond (Codes (HeadCode spelling) equal (HeadCode _)) fits = absurd (cc)
 reads_cond (Codes (HeadCode spelling) equal (LineCode _)) fits = absurd (cc)
@@ -229,12 +243,14 @@ pub record EndsWhen (rest : List ℕ) : Type 0 where
   pub no_when : NotNext (is_word_next (codes "when")) rest
 
 -- a condition, where there is one
-pub reads_when : (x : Option PlainCond) → when_fits is_small x ≡ true → ReadsBack EndsWhen when (when_text x) x
+pub reads_when : (x : Option PlainCond) → when_fits is_small x ≡ true
+    → ReadsBack EndsWhen when (when_text x) x
 unfolding when when_fits is_name
 reads_when None fits = then_gives _
-    (reads_before (takes_nothing (is_word_next (codes "when"))) (λ rest (end : EndsWhen rest). end.no_when))
+    (takes_nothing_before (is_word_next (codes "when")) (λ rest (end : EndsWhen rest). end.no_when))
     (λ tokens. refl)
 reads_when (Some x) fits =
+    let one = reads_before (reads_cond x fits) (λ rest (end : EndsWhen rest). end.sum) in
     then_reads _ (behind_blank (takes_word (codes "when") refl))
-    (then_gives _ (behind_blank (reads_before (reads_cond x fits) (λ rest (end : EndsWhen rest). end.sum))) (λ tokens. refl))
+    (then_gives _ (behind_blank one) (λ tokens. refl))
     (λ rest end. refl)

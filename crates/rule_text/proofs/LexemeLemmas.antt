@@ -1,5 +1,5 @@
 -- Words, numbers, codes and marks at the front of what is left of a text.
-use Rattle.std.proofs.Common.{◌≡◌, ℕ, zero, suc, ◌+◌, ◌/◌, ◌^◌, ◌<◌, ◌≤◌, Bool, true, false, ◌&&◌, List, [], ◌∷◌, ◌++◌, take, drop, length, slice_index, min, Some, pos, codes, ◌==◌, arith, refl, ap, ◌∙◌, append_assoc}
+use Rattle.std.proofs.Common.{◌≡◌, ℕ, zero, suc, ◌+◌, ◌/◌, ◌^◌, ◌<◌, ◌≤◌, Bool, true, false, List, [], ◌∷◌, ◌++◌, take, drop, length, slice_index, min, Some, pos, codes, ◌==◌, arith, refl, ap, ◌∙◌, append_assoc}
 use Rattle.std.proofs.lemmas.Bool.{and_parts}
 use Rattle.std.specs.List.{prefix_len, list_all}
 use Rattle.std.specs.Char.{is_ascii_alphabetic, is_ascii_digit, is_ascii_lowercase}
@@ -15,9 +15,9 @@ use Rattle.rule_text.specs.Tokens.{is_blank, is_word_byte, lexeme, word_lexeme, 
 use Rattle.rule_text.specs.declared.mark.Mark.{Mark}
 use Rattle.rule_text.specs.declared.mark.Mark.TheVariants.{Open, Close, Semicolon, Comma, Equal, Point, Plus, Minus, Less, AtMost, AtLeast, Greater, Differs}
 use Rattle.rule_text.specs.declared.token.Spelling.TheVariants.{Named}
+use Rattle.rule_text.specs.declared.token.Token.{Token}
 use Rattle.rule_text.specs.declared.token.Token.TheVariants.{Word, Number, Quoted, Sign}
 use Rattle.rule_text.proofs.TextTokens.{tokens_at, tokens_at-token}
-
 
 -- elements that pass, in front of something else, are all that a walk takes
 prefix_len-all : (test : ℕ → Bool) (xs rest : List ℕ) → list_all test xs ≡ true
@@ -62,7 +62,8 @@ unfolding is_name
 first-name [] h = absurd (cc)
 first-name (b ∷ bs) h = (and_parts _ _ h).0
 
-first-in_front : (word rest : List ℕ) → is_name word ≡ true → slice_index (word ++ rest) 0 ≡ slice_index word 0
+first-in_front : (word rest : List ℕ) → is_name word ≡ true
+    → slice_index (word ++ rest) 0 ≡ slice_index word 0
 unfolding is_name
 first-in_front [] rest h = absurd (cc)
 first-in_front (b ∷ bs) rest h = refl
@@ -165,7 +166,8 @@ closed_code-whole : (code rest : List ℕ) → is_code code ≡ true
     → closed_code (34 ∷ (code ++ (34 ∷ rest))) (length code) ≡ Some code
 unfolding closed_code
 closed_code-whole code rest coded =
-    let whole : take (length code) (code ++ (34 ∷ rest)) ≡ code = take_at code (34 ∷ rest) (length code) refl in
+    let whole : take (length code) (code ++ (34 ∷ rest)) ≡ code =
+    take_at code (34 ∷ rest) (length code) refl in
     let next : length code + 1 ≡ suc (length code) = omega arith in
     let quote : slice_index (34 ∷ (code ++ (34 ∷ rest))) (length code + 1) ≡ 34 =
     rw next (get_or_at code 34 rest 0 (length code) refl) in
@@ -190,7 +192,8 @@ pub tokens_at-code : (place : ℕ) (code rest : List ℕ) → is_code code ≡ t
     ∷ tokens_at (place + length (quoted_text code)) rest
 tokens_at-code place code rest coded =
     let long : length code + 2 ≡ length (quoted_text code) = simp length-append (omega arith) in
-    let parted : (code ++ codes "\"") ++ rest ≡ code ++ (34 ∷ rest) = append_assoc code (codes "\"") rest in
+    let parted : (code ++ codes "\"") ++ rest ≡ code ++ (34 ∷ rest) =
+    append_assoc code (codes "\"") rest in
     tokens_at-token place (quoted_text code) rest (Quoted code) refl
     (rw (parted, ← long) (lexeme_of-code place code rest coded))
 
@@ -202,15 +205,20 @@ pub record EndsPart (rest : List ℕ) : Type 0 where
 not_digit : (b : ℕ) → is_word_byte b ≡ false → is_ascii_digit b ≡ false
 not_digit b h = grind (arith, nat_tests)
 
+-- the token of digits with so many decimals
+abbrev spelt : ℕ → ℕ → Token
+spelt n decimals = Number (record { digits = n; decimals = decimals })
+
 -- digits with none behind them
 number_lexeme-whole : (place n : ℕ) (rest : List ℕ) → n ≤ largest_units → EndsPart rest
     → number_lexeme place (number_text n ++ rest)
-    ≡ lexeme place (length (number_text n)) (Number (record { digits = n; decimals = 0 }))
+    ≡ lexeme place (length (number_text n)) (spelt n 0)
 unfolding number_lexeme decimal_count
 number_lexeme-whole place n rest within ends =
     let wide : n < 2 ^ 64 = omega arith in
     let digits = all_digits-number_text n wide in
-    let as_long = prefix_len-all is_ascii_digit (number_text n) rest digits (not_digit (slice_index rest 0) ends.no_word) in
+    let stop = not_digit (slice_index rest 0) ends.no_word in
+    let as_long = prefix_len-all is_ascii_digit (number_text n) rest digits stop in
     let next : length (number_text n) + 0 ≡ length (number_text n) = omega arith in
     let behind : slice_index (number_text n ++ rest) (length (number_text n)) ≡ slice_index rest 0 =
     rw next at (get_or-append-add (number_text n) rest 0 0) in
@@ -224,17 +232,18 @@ number_lexeme-parts : (place k part n : ℕ) (front back rest : List ℕ)
     → length back ≡ suc k → decimal_value front ≡ part → read_on part back ≡ n
     → n ≤ largest_units → EndsPart rest
     → number_lexeme place (front ++ (46 ∷ (back ++ rest)))
-    ≡ lexeme place (length front + 1 + suc k) (Number (record { digits = n; decimals = suc k }))
+    ≡ lexeme place (length front + 1 + suc k) (spelt n (suc k))
 unfolding number_lexeme decimal_count
-number_lexeme-parts place k part n front back rest whole_digits digits count whole value within ends =
+number_lexeme-parts place k part n front back rest all digits count whole value within ends =
     let as_long : prefix_len is_ascii_digit (front ++ (46 ∷ (back ++ rest))) ≡ length front =
-    prefix_len-all is_ascii_digit front (46 ∷ (back ++ rest)) whole_digits refl in
+    prefix_len-all is_ascii_digit front (46 ∷ (back ++ rest)) all refl in
     let point : slice_index (front ++ (46 ∷ (back ++ rest))) (length front) ≡ 46 =
     get_or_at front 46 (back ++ rest) 0 (length front) refl in
     let behind : drop (length front + 1) (front ++ (46 ∷ (back ++ rest))) ≡ back ++ rest =
     drop-append-add front (46 ∷ (back ++ rest)) 1 in
+    let stop = not_digit (slice_index rest 0) ends.no_word in
     let decimals : prefix_len is_ascii_digit (back ++ rest) ≡ suc k =
-    prefix_len-all is_ascii_digit back rest digits (not_digit (slice_index rest 0) ends.no_word) ∙ count in
+    prefix_len-all is_ascii_digit back rest digits stop ∙ count in
     let first : take (length front) (front ++ (46 ∷ (back ++ rest))) ≡ front =
     take_at front (46 ∷ (back ++ rest)) (length front) refl in
     let last : take (suc k) (back ++ rest) ≡ back = take_at back rest (suc k) count in
@@ -244,7 +253,7 @@ number_lexeme-parts place k part n front back rest whole_digits digits count who
 
 number_lexeme-units : (place n decimals : ℕ) (rest : List ℕ) → n ≤ largest_units → EndsPart rest
     → number_lexeme place (units_text n decimals ++ rest)
-    ≡ lexeme place (length (units_text n decimals)) (Number (record { digits = n; decimals = decimals }))
+    ≡ lexeme place (length (units_text n decimals)) (spelt n decimals)
 unfolding units_text
 number_lexeme-units place n zero rest within ends = number_lexeme-whole place n rest within ends
 number_lexeme-units place n (suc k) rest within ends =
@@ -277,12 +286,13 @@ starts_units n (suc k) rest within =
     rw append_assoc (starts_digits (number_text part) (46 ∷ (last_digits (suc k) n ++ rest))
     (all_digits-number_text part wide) (number_text-some part wide))
 
-digit_not_letter : (b : ℕ) → is_ascii_digit b ≡ true → (is_ascii_alphabetic b ≡ false) × (is_blank b ≡ false)
+digit_not_letter : (b : ℕ) → is_ascii_digit b ≡ true
+    → (is_ascii_alphabetic b ≡ false) × (is_blank b ≡ false)
 digit_not_letter b h = (grind (arith, nat_tests), grind (arith, nat_tests))
 
 lexeme_of-number : (place n decimals : ℕ) (rest : List ℕ) → n ≤ largest_units → EndsPart rest
     → lexeme_of place (units_text n decimals ++ rest)
-    ≡ lexeme place (length (units_text n decimals)) (Number (record { digits = n; decimals = decimals }))
+    ≡ lexeme place (length (units_text n decimals)) (spelt n decimals)
 unfolding lexeme_of
 lexeme_of-number place n decimals rest within ends =
     let digit = starts_units n decimals rest within in
@@ -292,11 +302,11 @@ lexeme_of-number place n decimals rest within ends =
 -- a number in front
 pub tokens_at-number : (place n decimals : ℕ) (rest : List ℕ) → n ≤ largest_units → EndsPart rest
     → tokens_at place (sum_text (pos n) decimals ++ rest)
-    ≡ lexeme place (length (sum_text (pos n) decimals)) (Number (record { digits = n; decimals = decimals }))
+    ≡ lexeme place (length (sum_text (pos n) decimals)) (spelt n decimals)
     ∷ tokens_at (place + length (sum_text (pos n) decimals)) rest
 unfolding sum_text
 tokens_at-number place n decimals rest within ends =
     let digit = rw append-nil at (starts_units n decimals [] within) in
-    tokens_at-token place (units_text n decimals) rest (Number (record { digits = n; decimals = decimals }))
+    tokens_at-token place (units_text n decimals) rest (spelt n decimals)
     (digit_not_letter (slice_index (units_text n decimals) 0) digit).1
     (lexeme_of-number place n decimals rest within ends)

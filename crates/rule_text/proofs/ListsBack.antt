@@ -1,16 +1,15 @@
 -- Lists read back what was written, with a joint in front of each element but the first.
-use Rattle.std.proofs.Common.{◌≡◌, ℕ, zero, suc, ◌+◌, ◌≤◌, ◌<◌, Bool, true, false, ◌&&◌, List, [], ◌∷◌, ◌++◌, length, Option, Some, None, Ok, arith, refl, ap, sym, ◌∙◌, append_assoc, append-nil}
+use Rattle.std.proofs.Common.{◌≡◌, ℕ, zero, suc, ◌+◌, ◌≤◌, Bool, true, List, [], ◌∷◌, ◌++◌, length, Option, Some, None, arith, refl, append_assoc}
 use Rattle.std.proofs.lemmas.Bool.{and_parts}
 use Rattle.std.specs.List.{flat_map, list_all}
 use Rattle.std.proofs.lemmas.List.{length-append}
-use Rattle.rule_text.specs.Readers.{Reader, ◌>>=◌, read_on, give, more_of, many, fronted, list_on, list_of}
-use Rattle.rule_text.specs.declared.token.Lexeme.{Lexeme}
+use Rattle.rule_text.specs.Readers.{Reader, more_of, many, list_on, list_of}
 use Rattle.rule_text.proofs.TextTokens.{tokens_at}
-use Rattle.rule_text.proofs.ReadBack.{ReadsBack, TakesToken, then_reads, then_gives, reads_nothing, reads_before}
-
+use Rattle.rule_text.proofs.ReadBack.{ReadsBack, TakesToken, then_reads, then_gives, reads_nothing}
 
 -- one more element is read back where it was written, and none where none follows
-pub record ReadsMore {X : Type 0} (follows ends : List ℕ → Type 0) (next : Reader (Option X)) (piece : X → List ℕ) (fits : X → Bool) : Type 0 where
+pub record ReadsMore {X : Type 0} (follows ends : List ℕ → Type 0) (next : Reader (Option X))
+    (piece : X → List ℕ) (fits : X → Bool) : Type 0 where
   pub one : (x : X) → fits x ≡ true → ReadsBack follows next (piece x) (Some x)
   pub some : (x : X) → fits x ≡ true → TakesToken follows (piece x)
   pub goes_on : (x : X) (rest : List ℕ) → follows (piece x ++ rest)
@@ -18,15 +17,19 @@ pub record ReadsMore {X : Type 0} (follows ends : List ℕ → Type 0) (next : R
   pub ended : (rest : List ℕ) → ends rest → follows rest
 
 -- what follows an element may follow it
-pub may_follow : {X : Type 0} {follows ends : List ℕ → Type 0} {next : Reader (Option X)} {piece : X → List ℕ}
-    → {fits : X → Bool} → ReadsMore follows ends next piece fits → (xs : List X) (rest : List ℕ) → ends rest
+pub may_follow : {X : Type 0} {follows ends : List ℕ → Type 0} {next : Reader (Option X)}
+    → {piece : X → List ℕ}
+    → {fits : X → Bool} → ReadsMore follows ends next piece fits → (xs : List X) (rest : List ℕ)
+    → ends rest
     → follows (flat_map piece xs ++ rest)
 may_follow h [] rest end = h.ended rest end
 may_follow {piece = piece} h (x ∷ xs) rest end =
     rw append_assoc (h.goes_on x (flat_map piece xs ++ rest))
 
-reads_many : {X : Type 0} {follows ends : List ℕ → Type 0} {next : Reader (Option X)} {piece : X → List ℕ}
-    → {fits : X → Bool} → ReadsMore follows ends next piece fits → (xs : List X) → list_all fits xs ≡ true
+reads_many : {X : Type 0} {follows ends : List ℕ → Type 0} {next : Reader (Option X)}
+    → {piece : X → List ℕ}
+    → {fits : X → Bool} → ReadsMore follows ends next piece fits → (xs : List X)
+    → list_all fits xs ≡ true
     → (most : ℕ) → length xs ≤ most → ReadsBack ends (many next most) (flat_map piece xs) xs
 unfolding many
 reads_many h [] fit zero enough = reads_nothing _ [] (λ place rest end. refl)
@@ -39,8 +42,10 @@ reads_many {next = next} {piece = piece} {fits = fits} h (x ∷ xs) fit (suc mos
     (λ rest end. may_follow h xs rest end)
 
 -- there are at least as many tokens as elements
-count : {X : Type 0} {follows ends : List ℕ → Type 0} {next : Reader (Option X)} {piece : X → List ℕ}
-    → {fits : X → Bool} → ReadsMore follows ends next piece fits → (xs : List X) → list_all fits xs ≡ true
+count : {X : Type 0} {follows ends : List ℕ → Type 0} {next : Reader (Option X)}
+    → {piece : X → List ℕ}
+    → {fits : X → Bool} → ReadsMore follows ends next piece fits → (xs : List X)
+    → list_all fits xs ≡ true
     → (place : ℕ) (rest : List ℕ) → ends rest
     → length xs + length (tokens_at (place + length (flat_map piece xs)) rest)
     ≤ length (tokens_at place (flat_map piece xs ++ rest))
@@ -52,13 +57,16 @@ count {piece = piece} {fits = fits} h (x ∷ xs) fit place rest end =
     let behind = flat_map piece xs ++ rest in
     let one = (h.some x parts.0).taken place behind (may_follow h xs rest end) in
     let more = count h xs parts.1 (place + length (piece x)) rest end in
-    let far : place + length (piece x ++ flat_map piece xs) ≡ place + length (piece x) + length (flat_map piece xs) =
+    let far : place + length (piece x ++ flat_map piece xs)
+    ≡ place + length (piece x) + length (flat_map piece xs) =
     simp length-append (omega arith) in
     rw (append_assoc, far) (omega arith)
 
 -- behind those in front, all others
-pub reads_list_on : {X : Type 0} {follows ends : List ℕ → Type 0} {next : Reader (Option X)} {piece : X → List ℕ}
-    → {fits : X → Bool} → ReadsMore follows ends next piece fits → (former xs : List X) → list_all fits xs ≡ true
+pub reads_list_on : {X : Type 0} {follows ends : List ℕ → Type 0} {next : Reader (Option X)}
+    → {piece : X → List ℕ}
+    → {fits : X → Bool} → ReadsMore follows ends next piece fits → (former xs : List X)
+    → list_all fits xs ≡ true
     → ReadsBack ends (list_on former next) (flat_map piece xs) (former ++ xs)
 unfolding list_on
 reads_list_on {piece = piece} h former xs fit = record {
@@ -72,7 +80,8 @@ reads_list_on {piece = piece} h former xs fit = record {
 }
 
 -- one element, and all others behind it
-pub reads_list_of : {X : Type 0} {follows ends : List ℕ → Type 0} {read : Reader X} {next : Reader (Option X)}
+pub reads_list_of : {X : Type 0} {follows ends : List ℕ → Type 0} {read : Reader X}
+    → {next : Reader (Option X)}
     → {text : List ℕ} {piece : X → List ℕ} {fits : X → Bool} {x : X} → ReadsBack follows read text x
     → ReadsMore follows ends next piece fits → (xs : List X) → list_all fits xs ≡ true
     → ReadsBack ends (list_of read next) (text ++ flat_map piece xs) (x ∷ xs)

@@ -1,15 +1,15 @@
 -- Readers that read back what was written, one behind the other.
-use Rattle.std.proofs.Common.{◌≡◌, ℕ, zero, suc, ◌+◌, ◌≤◌, ◌<◌, Bool, true, false, List, [], ◌∷◌, ◌++◌, length, slice_index, Option, Some, None, option_map, option_and_then, Ok, cond, arith, refl, sym, ap, ◌∙◌, append_assoc, append-nil}
+use Rattle.std.proofs.Common.{◌≡◌, ℕ, suc, ◌+◌, ◌≤◌, ◌<◌, Bool, false, List, [], ◌∷◌, ◌++◌, length, Option, Some, None, option_map, Ok, arith, refl, ap, ◌∙◌, append_assoc}
 use Rattle.std.proofs.lemmas.List.{length-append}
-use Rattle.rule_text.specs.Readers.{Reader, ◌>>=◌, read_on, give, takes, pick}
+use Rattle.rule_text.specs.Readers.{Reader, ◌>>=◌, takes, pick}
 use Rattle.rule_text.specs.Fronts.{first, front}
-use Rattle.rule_text.specs.Tokens.{is_blank}
 use Rattle.rule_text.specs.declared.token.Lexeme.{Lexeme}
 use Rattle.rule_text.specs.declared.token.Token.{Token}
 use Rattle.rule_text.proofs.TextTokens.{tokens_at, tokens_at-blank}
 
 -- in front of what may follow, the reader takes the text and gives the value
-pub record ReadsBack {X : Type 0} (follows : List ℕ → Type 0) (read : Reader X) (text : List ℕ) (x : X) : Type 0 where
+pub record ReadsBack {X : Type 0} (follows : List ℕ → Type 0) (read : Reader X) (text : List ℕ)
+    (x : X) : Type 0 where
   pub reads : (place : ℕ) (rest : List ℕ) → follows rest
       → read (tokens_at place (text ++ rest)) ≡ Ok (x, tokens_at (place + length text) rest)
   pub fewer : (place : ℕ) (rest : List ℕ) → follows rest
@@ -25,16 +25,18 @@ abbrev pub Anything : List ℕ → Type 0
 Anything rest = Unit
 
 -- the tokens behind two texts
-tokens_behind : (place : ℕ) (front back rest : List ℕ)
-    → tokens_at (place + length front + length back) rest ≡ tokens_at (place + length (front ++ back)) rest
-tokens_behind place front back rest =
-    let same : place + length front + length back ≡ place + length (front ++ back) =
+tokens_behind : (place : ℕ) (former back rest : List ℕ)
+    → tokens_at (place + length former + length back) rest
+    ≡ tokens_at (place + length (former ++ back)) rest
+tokens_behind place former back rest =
+    let same : place + length former + length back ≡ place + length (former ++ back) =
     simp length-append (omega arith) in
     ap (λ n. tokens_at n rest) same
 
 -- one behind the other
 pub then_reads : {X Y : Type 0} {follows ends : List ℕ → Type 0} {read : Reader X}
-    → {former back : List ℕ} {x : X} {y : Y} → (next : X → Reader Y) → ReadsBack follows read former x → ReadsBack ends (next x) back y
+    → {former back : List ℕ} {x : X} {y : Y} → (next : X → Reader Y)
+    → ReadsBack follows read former x → ReadsBack ends (next x) back y
     → ((rest : List ℕ) → ends rest → follows (back ++ rest))
     → ReadsBack ends (read >>= next) (former ++ back) y
 then_reads {former = former} {back = back} next h k behind = record {
@@ -51,9 +53,11 @@ then_reads {former = former} {back = back} next h k behind = record {
 -- what is done with the value takes no token
 pub then_gives : {X Y : Type 0} {follows : List ℕ → Type 0} {read : Reader X}
     → {text : List ℕ} {x : X} {y : Y} → (next : X → Reader Y) → ReadsBack follows read text x
-    → ((tokens : List Lexeme) → next x tokens ≡ Ok (y, tokens)) → ReadsBack follows (read >>= next) text y
+    → ((tokens : List Lexeme) → next x tokens ≡ Ok (y, tokens))
+    → ReadsBack follows (read >>= next) text y
 then_gives {text = text} next h given = record {
-  reads = λ place rest end. rw (h.reads place rest end) (given (tokens_at (place + length text) rest));
+  reads = λ place rest end.
+      rw (h.reads place rest end) (given (tokens_at (place + length text) rest));
   fewer = h.fewer;
 }
 
@@ -72,7 +76,8 @@ reads_nothing read x given = record {
 }
 
 -- a blank in front
-pub behind_blank : {X : Type 0} {follows : List ℕ → Type 0} {read : Reader X} {text : List ℕ} {x : X}
+pub behind_blank : {X : Type 0} {follows : List ℕ → Type 0} {read : Reader X} {text : List ℕ}
+    → {x : X}
     → ReadsBack follows read text x → ReadsBack follows read (32 ∷ text) x
 behind_blank {text = text} h = record {
   reads = λ place rest end.
@@ -84,7 +89,8 @@ behind_blank {text = text} h = record {
 }
 
 -- less may follow
-pub reads_before : {X : Type 0} {follows ends : List ℕ → Type 0} {read : Reader X} {text : List ℕ} {x : X}
+pub reads_before : {X : Type 0} {follows ends : List ℕ → Type 0} {read : Reader X} {text : List ℕ}
+    → {x : X}
     → ReadsBack follows read text x → ((rest : List ℕ) → ends rest → follows rest)
     → ReadsBack ends read text x
 reads_before h narrow = record {
@@ -92,8 +98,14 @@ reads_before h narrow = record {
   fewer = λ place rest end. h.fewer place rest (narrow rest end);
 }
 
+-- where anything may follow, so may less
+pub before_less : {X : Type 0} {follows : List ℕ → Type 0} {read : Reader X} {text : List ℕ} {x : X}
+    → ReadsBack Anything read text x → ReadsBack follows read text x
+before_less h = reads_before h (λ rest end. tt)
+
 -- a token in front
-pub takes_first : {X : Type 0} {follows ends : List ℕ → Type 0} {read : Reader X} {former back : List ℕ} {x : X}
+pub takes_first : {X : Type 0} {follows ends : List ℕ → Type 0} {read : Reader X}
+    → {former back : List ℕ} {x : X}
     → TakesToken follows former → ReadsBack ends read back x
     → ((rest : List ℕ) → ends rest → follows (back ++ rest)) → TakesToken ends (former ++ back)
 takes_first {former = former} {back = back} h k behind = record {
@@ -104,7 +116,8 @@ takes_first {former = former} {back = back} h k behind = record {
 }
 
 -- a token behind
-pub takes_later : {X : Type 0} {follows ends : List ℕ → Type 0} {read : Reader X} {former back : List ℕ} {x : X}
+pub takes_later : {X : Type 0} {follows ends : List ℕ → Type 0} {read : Reader X}
+    → {former back : List ℕ} {x : X}
     → ReadsBack follows read former x → TakesToken ends back
     → ((rest : List ℕ) → ends rest → follows (back ++ rest)) → TakesToken ends (former ++ back)
 takes_later {former = former} {back = back} h k behind = record {
@@ -125,10 +138,12 @@ takes_blank {text = text} h = record {
 
 -- the first token of what follows is this one
 pub record Begins (token : Token) (rest : List ℕ) : Type 0 where
-  pub first_is : (place : ℕ) → option_map (λ lexeme. lexeme.token) (first (tokens_at place rest)) ≡ Some token
+  pub first_is : (place : ℕ)
+      → option_map (λ lexeme. lexeme.token) (first (tokens_at place rest)) ≡ Some token
 
 front_first : {X : Type 0} (gives : Token → Option X) (token : Token) (tokens : List Lexeme)
-    → option_map (λ lexeme. lexeme.token) (first tokens) ≡ Some token → front gives tokens ≡ gives token
+    → option_map (λ lexeme. lexeme.token) (first tokens) ≡ Some token
+    → front gives tokens ≡ gives token
 front_first gives token [] is = absurd (cc)
 front_first gives token (lexeme ∷ tokens) is =
     let same : lexeme.token ≡ token = cc in
@@ -153,10 +168,18 @@ NotNext test rest = (place : ℕ) → test (tokens_at place rest) ≡ false
 abbrev pub NoneNext : {X : Type 0} → (Token → Option X) → List ℕ → Type 0
 NoneNext gives rest = (place : ℕ) → front gives (tokens_at place rest) ≡ None
 
+-- nothing is taken where the test finds nothing
 pub takes_nothing : (test : List Lexeme → Bool) → ReadsBack (NotNext test) (takes test) [] false
 takes_nothing test = reads_nothing (takes test) false (λ place rest none. rw (none place) refl)
 
-pub picks_nothing : {X : Type 0} (gives : Token → Option X) → ReadsBack (NoneNext gives) (pick gives) [] None
+-- the same, where what may follow says so
+pub takes_nothing_before : {follows : List ℕ → Type 0} (test : List Lexeme → Bool)
+    → ((rest : List ℕ) → follows rest → NotNext test rest) → ReadsBack follows (takes test) [] false
+takes_nothing_before test none = reads_before (takes_nothing test) none
+
+-- nothing is picked where the first token gives nothing
+pub picks_nothing : {X : Type 0} (gives : Token → Option X)
+    → ReadsBack (NoneNext gives) (pick gives) [] None
 picks_nothing gives = reads_nothing (pick gives) None (λ place rest none. rw (none place) refl)
 
 -- the text starts with this token
@@ -164,7 +187,8 @@ pub record Starts (follows : List ℕ → Type 0) (token : Token) (text : List �
   pub begins : (rest : List ℕ) → follows rest → Begins token (text ++ rest)
 
 pub starts_first : {follows ends : List ℕ → Type 0} {token : Token} {former : List ℕ}
-    → (back : List ℕ) → Starts follows token former → ((rest : List ℕ) → ends rest → follows (back ++ rest))
+    → (back : List ℕ) → Starts follows token former
+    → ((rest : List ℕ) → ends rest → follows (back ++ rest))
     → Starts ends token (former ++ back)
 starts_first {former = former} back h behind = record {
   begins = λ rest end. rw append_assoc (h.begins (back ++ rest) (behind rest end));

@@ -1,21 +1,15 @@
 -- Statements are read back as they were written.
-use Rattle.std.proofs.Common.{◌≡◌, ℕ, zero, suc, ◌+◌, ◌≤◌, ◌<◌, Bool, true, false, not, ◌&&◌, List, [], ◌∷◌, ◌++◌, length, slice_index, Option, Some, None, option_map, Ok, codes, arith, refl, sym, ap, ◌∙◌, append_assoc, append-nil, subst}
+use Rattle.std.proofs.Common.{◌≡◌, ℕ, suc, ◌+◌, true, false, List, [], ◌∷◌, ◌++◌, length, Option, Some, None, option_map, codes, arith, refl, ap, ◌∙◌, append_assoc}
 use Rattle.std.proofs.lemmas.Bool.{and_parts}
-use Rattle.std.specs.List.{flat_map, list_all}
 use Rattle.std.proofs.lemmas.List.{length-append}
 use Rattle.reg_base.specs.Codes.{is_name}
 use Rattle.rule_text.specs.Marks.{mark_text}
-use Rattle.rule_text.specs.Readers.{Reader, ◌>>=◌, read_on, give, takes, mark, more_of, many, list_on, ends}
-use Rattle.rule_text.specs.Fronts.{first, sign_of, word_of, is_mark_next, is_word_next}
-use Rattle.rule_text.specs.Acts.{act}
-use Rattle.rule_text.specs.Conditions.{when}
-use Rattle.rule_text.specs.Sentences.{scope, statement, next_statement, statements, statements_of}
-use Rattle.rule_text.specs.Tokens.{is_blank, lexeme, tokens_of}
-use Rattle.rule_text.specs.declared.mark.Mark.{Mark}
-use Rattle.rule_text.specs.declared.mark.Mark.TheVariants.{Semicolon, Plus, Minus}
-use Rattle.rule_text.specs.declared.token.Lexeme.{Lexeme}
+use Rattle.rule_text.specs.Readers.{Reader, mark}
+use Rattle.rule_text.specs.Fronts.{first, is_word_next}
+use Rattle.rule_text.specs.Sentences.{scope, statement}
+use Rattle.rule_text.specs.Tokens.{is_blank, lexeme}
+use Rattle.rule_text.specs.declared.mark.Mark.TheVariants.{Semicolon}
 use Rattle.rule_text.specs.declared.token.Spelling.TheVariants.{Named}
-use Rattle.rule_text.specs.declared.token.Token.{Token}
 use Rattle.rule_text.specs.declared.token.Token.TheVariants.{Word}
 use Rattle.rule_text.specs.declared.plain.PlainAct.{PlainAct}
 use Rattle.rule_text.specs.declared.plain.PlainAct.TheVariants.{Make, WriteOff, Require, Control, Entry}
@@ -23,41 +17,45 @@ use Rattle.rule_text.specs.declared.plain.PlainCond.{PlainCond}
 use Rattle.rule_text.specs.declared.plain.PlainStatement.{PlainStatement}
 use Rattle.rule_text.specs.declared.plain.Scope.{Scope}
 use Rattle.rule_text.specs.declared.plain.Scope.TheVariants.{Once, EachLine}
-use Rattle.rule_text.specs.declared.plain.Verb.{Verb}
 use Rattle.rule_text.specs.declared.plain.Verb.TheVariants.{Receipt, Expense, Turn}
-use Rattle.rule_text.proofs.PlainTexts.{act_text, scope_text, when_text, statement_text, statements_text, placed, verb_text, order_text, is_small, act_fits, when_fits, statement_fits}
-use Rattle.rule_text.proofs.TextTokens.{tokens_at, tokens_within, tokens_at-blank, tokens_at-text, first_place}
-use Rattle.rule_text.proofs.ReadBack.{ReadsBack, TakesToken, Anything, then_reads, then_gives, behind_blank, reads_before, takes_later, Begins, begins-blank, NotNext, takes_nothing}
+use Rattle.rule_text.proofs.PlainTexts.{act_text, scope_text, when_text, statement_text, is_small, act_fits, when_fits, statement_fits}
+use Rattle.rule_text.proofs.TextTokens.{tokens_at, tokens_at-blank, first_place}
+use Rattle.rule_text.proofs.ReadBack.{ReadsBack, TakesToken, Anything, then_reads, then_gives, behind_blank, before_less, takes_later, NotNext, takes_nothing, takes_nothing_before}
 use Rattle.rule_text.proofs.TokensBack.{EndsWord, is_word, is_mark, takes-token, begins-token, reads_mark, reads_word, takes_word, not_word}
-use Rattle.rule_text.proofs.SumsBack.{EndsSum, ends_blank}
 use Rattle.rule_text.proofs.BindsBack.{ends_sum}
 use Rattle.rule_text.proofs.ActsBack.{reads_act}
 use Rattle.rule_text.proofs.ConditionsBack.{EndsWhen, reads_when}
 
 behind_text : (place b : ℕ) (text rest : List ℕ) → is_blank b ≡ true
-    → tokens_at (place + length text) (b ∷ rest) ≡ tokens_at (place + length (text ++ (b ∷ []))) rest
+    → tokens_at (place + length text) (b ∷ rest)
+    ≡ tokens_at (place + length (text ++ (b ∷ []))) rest
 behind_text place b text rest blank =
     let far : suc (place + length text) ≡ place + length (text ++ (b ∷ [])) =
     simp length-append (omega arith) in
     tokens_at-blank (place + length text) b rest blank ∙ ap (λ n. tokens_at n rest) far
 
 -- a blank behind
-before_blank : {X : Type 0} {follows : List ℕ → Type 0} {read : Reader X} {text : List ℕ} {x : X} (b : ℕ)
+before_blank : {X : Type 0} {follows : List ℕ → Type 0} {read : Reader X} {text : List ℕ} {x : X}
+    → (b : ℕ)
     → ReadsBack follows read text x → is_blank b ≡ true → ((rest : List ℕ) → follows (b ∷ rest))
     → ReadsBack Anything read (text ++ (b ∷ [])) x
 before_blank {text = text} b h blank behind = record {
   reads = λ place rest end.
-      rw (append_assoc, h.reads place (b ∷ rest) (behind rest), behind_text place b text rest blank) refl;
+      let one = h.reads place (b ∷ rest) (behind rest) in
+      rw (append_assoc, one, behind_text place b text rest blank) refl;
   fewer = λ place rest end.
-      rw (append_assoc, ← (behind_text place b text rest blank)) (h.fewer place (b ∷ rest) (behind rest));
+      let one = h.fewer place (b ∷ rest) (behind rest) in
+      rw (append_assoc, ← (behind_text place b text rest blank)) one;
 }
 
 -- a token in front of a blank
 takes_before_blank : {follows : List ℕ → Type 0} {text : List ℕ} (b : ℕ) → TakesToken follows text
-    → is_blank b ≡ true → ((rest : List ℕ) → follows (b ∷ rest)) → TakesToken Anything (text ++ (b ∷ []))
+    → is_blank b ≡ true → ((rest : List ℕ) → follows (b ∷ rest))
+    → TakesToken Anything (text ++ (b ∷ []))
 takes_before_blank {text = text} b h blank behind = record {
   taken = λ place rest end.
-      rw (append_assoc, ← (behind_text place b text rest blank)) (h.taken place (b ∷ rest) (behind rest));
+      let one = h.taken place (b ∷ rest) (behind rest) in
+      rw (append_assoc, ← (behind_text place b text rest blank)) one;
 }
 
 -- neither `once` nor `each` follows
@@ -68,21 +66,24 @@ record EndsScope (rest : List ℕ) : Type 0 where
 reads_scope : (x : Option Scope) → ReadsBack EndsScope scope (scope_text x) x
 unfolding scope is_name
 reads_scope None =
-    then_reads _ (reads_before (takes_nothing (is_word_next (codes "once"))) (λ rest (end : EndsScope rest). end.no_once))
-    (then_gives _ (reads_before (takes_nothing (is_word_next (codes "each"))) (λ rest (end : EndsScope rest). end.no_each))
-      (λ tokens. refl))
+    then_reads _
+    (takes_nothing_before (is_word_next (codes "once"))
+    (λ rest (end : EndsScope rest). end.no_once))
+    (then_gives _
+    (takes_nothing_before (is_word_next (codes "each"))
+    (λ rest (end : EndsScope rest). end.no_each))
+    (λ tokens. refl))
     (λ rest end. end)
-reads_scope (Some Once) = reads_before
-    (before_blank 32 (then_gives _ (takes_word (codes "once") refl) (λ tokens. refl)) refl (λ rest. refl))
-    (λ rest end. tt)
-reads_scope (Some EachLine) = reads_before
-    (before_blank 32 (then_reads _ (takes_nothing (is_word_next (codes "once")))
-        (then_reads _ (takes_word (codes "each") refl)
-          (then_gives _ (behind_blank (reads_word (codes "line") refl)) (λ tokens. refl))
-          (λ rest end. refl))
-        (λ rest end. not_word (begins-token (is_word (codes "each") refl) _ refl) (codes "once") refl))
-      refl (λ rest. refl))
-    (λ rest end. tt)
+reads_scope (Some Once) =
+    let once = then_gives _ (takes_word (codes "once") refl) (λ tokens. refl) in
+    before_less (before_blank 32 once refl (λ rest. refl))
+reads_scope (Some EachLine) = before_less (before_blank 32
+    (then_reads _ (takes_nothing (is_word_next (codes "once")))
+    (then_reads _ (takes_word (codes "each") refl)
+    (then_gives _ (behind_blank (reads_word (codes "line") refl)) (λ tokens. refl))
+    (λ rest end. refl))
+    (λ rest end. not_word (begins-token (is_word (codes "each") refl) _ refl) (codes "once") refl))
+    refl (λ rest. refl))
 
 -- a word that is no scope
 no_scope : (text : List ℕ) → is_name text ≡ true
@@ -141,25 +142,27 @@ reads_statement place x fits =
     let parts = and_parts (act_fits is_small x.act) (when_fits is_small x.when) fits in
     then_reads _ (reads_scope x.scope)
     (then_reads _ (reads_act x.act parts.0)
-      (then_reads _ (reads_when x.when parts.1)
-        (then_gives _ reads_semicolon (λ tokens. refl))
-        (λ rest end. when_ends rest))
-      (λ rest end. act_ends x.when rest))
+    (then_reads _ (reads_when x.when parts.1)
+    (then_gives _ reads_semicolon (λ tokens. refl))
+    (λ rest end. when_ends rest))
+    (λ rest end. act_ends x.when rest))
     (λ rest end. scope_ends x.act (when_text x.when ++ codes ";\n") rest)
 
-pub takes_statement : (x : PlainStatement) → statement_fits is_small x ≡ true → TakesToken Anything (statement_text x)
+pub takes_statement : (x : PlainStatement) → statement_fits is_small x ≡ true
+    → TakesToken Anything (statement_text x)
 unfolding statement_text
 takes_statement x fits =
     let parts = and_parts (act_fits is_small x.act) (when_fits is_small x.when) fits in
     takes_later (reads_scope x.scope)
     (takes_later (reads_act x.act parts.0)
-      (takes_later (reads_when x.when parts.1) takes_semicolon (λ rest end. when_ends rest))
-      (λ rest end. act_ends x.when rest))
+    (takes_later (reads_when x.when parts.1) takes_semicolon (λ rest end. when_ends rest))
+    (λ rest end. act_ends x.when rest))
     (λ rest end. scope_ends x.act (when_text x.when ++ codes ";\n") rest)
 
 -- where the first token begins
 abbrev pub FirstAt : ℕ → List ℕ → Type 0
-FirstAt place bytes = option_map (λ lexeme. lexeme.place) (first (tokens_at place bytes)) ≡ Some place
+FirstAt place bytes =
+    option_map (λ lexeme. lexeme.place) (first (tokens_at place bytes)) ≡ Some place
 
 act_first : (place : ℕ) (x : PlainAct) (rest : List ℕ) → FirstAt place (act_text x ++ rest)
 unfolding act_text
@@ -178,9 +181,13 @@ scope_first place None x rest = act_first place x rest
 scope_first place (Some Once) x rest = first_place place 111 _ refl
 scope_first place (Some EachLine) x rest = first_place place 101 _ refl
 
-pub statement_first : (place : ℕ) (x : PlainStatement) (rest : List ℕ) → FirstAt place (statement_text x ++ rest)
+pub statement_first : (place : ℕ) (x : PlainStatement) (rest : List ℕ)
+    → FirstAt place (statement_text x ++ rest)
 unfolding statement_text
 statement_first place x rest =
     let more = when_text x.when ++ codes ";\n" in
-    rw (append_assoc (scope_text x.scope) (act_text x.act ++ more) rest, append_assoc (act_text x.act) more rest)
+    rw (
+      append_assoc (scope_text x.scope) (act_text x.act ++ more) rest,
+      append_assoc (act_text x.act) more rest,
+    )
     (scope_first place x.scope x.act (more ++ rest))

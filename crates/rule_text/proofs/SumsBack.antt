@@ -1,29 +1,27 @@
 -- Codes, parts, terms and sums are read back as they were written.
-use Rattle.std.proofs.Common.{◌≡◌, ℕ, suc, ◌+◌, ◌≤◌, ◌<◌, Bool, true, false, not, ◌&&◌, List, [], ◌∷◌, ◌++◌, length, slice_index, Option, Some, None, Ok, codes, arith, refl, ap, ◌∙◌, append_assoc, subst, cond}
+use Rattle.std.proofs.Common.{◌≡◌, ℕ, Bool, true, false, not, List, [], ◌∷◌, ◌++◌, Some, None, codes, refl, subst, cond}
 use Rattle.std.proofs.lemmas.Bool.{and_parts}
-use Rattle.std.specs.List.{flat_map, list_all}
-use Rattle.reg_base.specs.Codes.{is_code, is_name}
+use Rattle.reg_base.specs.Codes.{is_name}
 use Rattle.rule_text.specs.Marks.{mark_text}
-use Rattle.rule_text.specs.Readers.{Reader, ◌>>=◌, read_on, give, takes, pick}
-use Rattle.rule_text.specs.Fronts.{sign_of, word_of, number_of, code_of, break_of, is_mark_next, is_word_next}
+use Rattle.rule_text.specs.Readers.{Reader}
+use Rattle.rule_text.specs.Fronts.{number_of, is_mark_next, is_word_next}
 use Rattle.rule_text.specs.Sums.{field, owner, field_code, code, field_part, part, term, joint, next_term, sum}
 use Rattle.rule_text.specs.Tokens.{lexeme}
 use Rattle.rule_text.specs.declared.mark.Mark.{Mark}
 use Rattle.rule_text.specs.declared.mark.Mark.TheVariants.{Point as PointMark, Plus as PlusMark, Minus as MinusMark}
 use Rattle.rule_text.specs.declared.sums.Owner.TheVariants.{OfHead, OfLine}
-use Rattle.rule_text.specs.declared.token.Literal.{Literal}
 use Rattle.rule_text.specs.declared.token.Spelling.{Spelling}
 use Rattle.rule_text.specs.declared.token.Spelling.TheVariants.{Named}
 use Rattle.rule_text.specs.declared.token.Token.{Token}
-use Rattle.rule_text.specs.declared.token.Token.TheVariants.{Word, Number as NumberToken, Sign}
+use Rattle.rule_text.specs.declared.token.Token.TheVariants.{Word, Number as NumberToken}
 use Rattle.rule_text.specs.declared.plain.PlainCode.{PlainCode}
 use Rattle.rule_text.specs.declared.plain.PlainCode.TheVariants.{Text, Head as HeadCode, Line as LineCode}
 use Rattle.rule_text.specs.declared.plain.PlainPart.{PlainPart}
 use Rattle.rule_text.specs.declared.plain.PlainPart.TheVariants.{Number, Head, Line, Total, Cost}
 use Rattle.rule_text.specs.declared.plain.PlainTerm.{PlainTerm}
-use Rattle.rule_text.proofs.PlainTexts.{spelling_text, literal_text, code_text, part_text, sign_text, term_text, joint_text, terms_text, is_named, is_small, code_fits, part_fits, terms_fit}
+use Rattle.rule_text.proofs.PlainTexts.{spelling_text, code_text, part_text, sign_text, term_text, joint_text, terms_text, is_named, is_small, code_fits, part_fits, terms_fit}
 use Rattle.rule_text.proofs.LexemeLemmas.{EndsPart}
-use Rattle.rule_text.proofs.ReadBack.{ReadsBack, TakesToken, Anything, then_reads, then_gives, takes_first, takes_blank, behind_blank, reads_before, Begins, begins-blank, NotNext, takes_nothing, picks_nothing}
+use Rattle.rule_text.proofs.ReadBack.{ReadsBack, TakesToken, Anything, then_reads, then_gives, takes_first, takes_blank, behind_blank, reads_before, before_less, Begins, begins-blank, NotNext, takes_nothing, takes_nothing_before, picks_nothing}
 use Rattle.rule_text.proofs.TokensBack.{EndsWord, is_word, is_mark, is_number, takes-token, begins-token, reads_mark, takes_mark, takes_word, reads_name, reads_code_if, picks_number, no_code_if, not_word, not_mark, none_next, no_code_next}
 use Rattle.rule_text.proofs.ListsBack.{ReadsMore, reads_list_of}
 
@@ -31,10 +29,12 @@ use Rattle.rule_text.proofs.ListsBack.{ReadsMore, reads_list_of}
 pub reads_field : (spelling : Spelling) → is_named spelling ≡ true
     → ReadsBack EndsWord field (codes "." ++ spelling_text spelling) spelling
 unfolding field mark_text
-reads_field spelling named = then_reads _ (reads_mark PointMark) (reads_name spelling named) (λ rest end. tt)
+reads_field spelling named =
+    then_reads _ (reads_mark PointMark) (reads_name spelling named) (λ rest end. tt)
 
 -- a word in front of a point
-pub begins_owner : (text : List ℕ) → is_name text ≡ true → (rest : List ℕ) → Begins (Word (Named text)) (text ++ (46 ∷ rest))
+pub begins_owner : (text : List ℕ) → is_name text ≡ true → (rest : List ℕ)
+    → Begins (Word (Named text)) (text ++ (46 ∷ rest))
 begins_owner text named rest = begins-token (is_word text named) (46 ∷ rest) refl
 
 reads_head : ReadsBack EndsWord owner (codes "head") OfHead
@@ -51,13 +51,15 @@ reads_line = then_reads _ (takes_nothing (is_word_next (codes "head")))
 pub reads_code : (x : PlainCode) → code_fits x ≡ true → ReadsBack EndsWord code (code_text x) x
 unfolding code field_code code_text code_fits is_name
 reads_code (Text text) fits =
-    reads_before (then_gives _ (reads_code_if text fits) (λ tokens. refl)) (λ rest end. tt)
+    before_less (then_gives _ (reads_code_if text fits) (λ tokens. refl))
 reads_code (HeadCode spelling) fits = then_reads _ no_code_if
-    (then_reads _ reads_head (then_gives _ (reads_field spelling fits) (λ tokens. refl)) (λ rest end. refl))
-    (λ rest end. no_code_next (begins_owner (codes "head") refl (spelling_text spelling ++ rest)) refl refl)
+    (then_reads _ reads_head (then_gives _ (reads_field spelling fits) (λ tokens. refl))
+    (λ rest end. refl))
+    (λ rest end. no_code_next (begins_owner (codes "head") refl _) refl refl)
 reads_code (LineCode spelling) fits = then_reads _ no_code_if
-    (then_reads _ reads_line (then_gives _ (reads_field spelling fits) (λ tokens. refl)) (λ rest end. refl))
-    (λ rest end. no_code_next (begins_owner (codes "line") refl (spelling_text spelling ++ rest)) refl refl)
+    (then_reads _ reads_line (then_gives _ (reads_field spelling fits) (λ tokens. refl))
+    (λ rest end. refl))
+    (λ rest end. no_code_next (begins_owner (codes "line") refl _) refl refl)
 
 -- the token that a part begins with
 unfoldable pub part_token : PlainPart → Token
@@ -71,50 +73,53 @@ pub begins_part : (x : PlainPart) → part_fits is_small x ≡ true → (rest : 
     → Begins (part_token x) (part_text x ++ rest)
 unfolding part_token part_text part_fits is_name
 begins_part (Number literal) fits rest end = begins-token (is_number literal fits) rest end
-begins_part (Head spelling) fits rest end = begins_owner (codes "head") refl (spelling_text spelling ++ rest)
-begins_part (Line spelling) fits rest end = begins_owner (codes "line") refl (spelling_text spelling ++ rest)
-begins_part (Total spelling) fits rest end = begins_owner (codes "total") refl (spelling_text spelling ++ rest)
+begins_part (Head spelling) fits rest end = begins_owner (codes "head") refl _
+begins_part (Line spelling) fits rest end = begins_owner (codes "line") refl _
+begins_part (Total spelling) fits rest end = begins_owner (codes "total") refl _
 begins_part Cost fits rest end = begins-token (is_word (codes "cost") refl) rest end.no_word
 
 -- a word that neither a word nor a point may follow
-pub before_part : {X : Type 0} {read : Reader X} {text : List ℕ} {x : X} → ReadsBack EndsWord read text x
+pub before_part : {X : Type 0} {read : Reader X} {text : List ℕ} {x : X}
+    → ReadsBack EndsWord read text x
     → ReadsBack EndsPart read text x
 before_part h = reads_before h (λ rest (end : EndsPart rest). end.no_word)
 
 -- a part
-pub reads_part : (x : PlainPart) → part_fits is_small x ≡ true → ReadsBack EndsPart part (part_text x) x
+pub reads_part : (x : PlainPart) → part_fits is_small x ≡ true
+    → ReadsBack EndsPart part (part_text x) x
 unfolding part field_part part_text part_fits part_token is_name
 reads_part (Number literal) fits = then_gives _ (picks_number literal fits) (λ tokens. refl)
 reads_part (Head spelling) fits = then_reads _ (picks_nothing number_of)
     (then_reads _ (takes_nothing (is_word_next (codes "cost")))
-      (then_reads _ (takes_nothing (is_word_next (codes "total")))
-        (then_reads _ reads_head
-          (then_gives _ (before_part (reads_field spelling fits)) (λ tokens. refl))
-          (λ rest end. refl))
-        (λ rest end. not_word (begins_part (Head spelling) fits rest end) (codes "total") refl))
-      (λ rest end. not_word (begins_part (Head spelling) fits rest end) (codes "cost") refl))
+    (then_reads _ (takes_nothing (is_word_next (codes "total")))
+    (then_reads _ reads_head
+    (then_gives _ (before_part (reads_field spelling fits)) (λ tokens. refl))
+    (λ rest end. refl))
+    (λ rest end. not_word (begins_part (Head spelling) fits rest end) (codes "total") refl))
+    (λ rest end. not_word (begins_part (Head spelling) fits rest end) (codes "cost") refl))
     (λ rest end. none_next (begins_part (Head spelling) fits rest end) number_of refl)
 reads_part (Line spelling) fits = then_reads _ (picks_nothing number_of)
     (then_reads _ (takes_nothing (is_word_next (codes "cost")))
-      (then_reads _ (takes_nothing (is_word_next (codes "total")))
-        (then_reads _ reads_line
-          (then_gives _ (before_part (reads_field spelling fits)) (λ tokens. refl))
-          (λ rest end. refl))
-        (λ rest end. not_word (begins_part (Line spelling) fits rest end) (codes "total") refl))
-      (λ rest end. not_word (begins_part (Line spelling) fits rest end) (codes "cost") refl))
+    (then_reads _ (takes_nothing (is_word_next (codes "total")))
+    (then_reads _ reads_line
+    (then_gives _ (before_part (reads_field spelling fits)) (λ tokens. refl))
+    (λ rest end. refl))
+    (λ rest end. not_word (begins_part (Line spelling) fits rest end) (codes "total") refl))
+    (λ rest end. not_word (begins_part (Line spelling) fits rest end) (codes "cost") refl))
     (λ rest end. none_next (begins_part (Line spelling) fits rest end) number_of refl)
 reads_part (Total spelling) fits = then_reads _ (picks_nothing number_of)
     (then_reads _ (takes_nothing (is_word_next (codes "cost")))
-      (then_reads _ (takes_word (codes "total") refl)
-        (then_gives _ (before_part (reads_field spelling fits)) (λ tokens. refl))
-        (λ rest end. refl))
-      (λ rest end. not_word (begins_part (Total spelling) fits rest end) (codes "cost") refl))
+    (then_reads _ (takes_word (codes "total") refl)
+    (then_gives _ (before_part (reads_field spelling fits)) (λ tokens. refl))
+    (λ rest end. refl))
+    (λ rest end. not_word (begins_part (Total spelling) fits rest end) (codes "cost") refl))
     (λ rest end. none_next (begins_part (Total spelling) fits rest end) number_of refl)
 reads_part Cost fits = then_reads _ (picks_nothing number_of)
     (then_gives _ (before_part (takes_word (codes "cost") refl)) (λ tokens. refl))
     (λ rest end. none_next (begins_part Cost fits rest end) number_of refl)
 
-not_sign : (sign : Mark) (x : PlainPart) → is_mark_next sign (lexeme 0 0 (part_token x) ∷ []) ≡ false
+not_sign : (sign : Mark) (x : PlainPart)
+    → is_mark_next sign (lexeme 0 0 (part_token x) ∷ []) ≡ false
 unfolding part_token
 not_sign sign (Number literal) = refl
 not_sign sign (Head spelling) = refl
@@ -151,9 +156,12 @@ ends_blank rest = record { no_word = refl; no_point = refl }
 
 no_joint : ReadsBack EndsSum joint [] None
 unfolding joint
-no_joint = then_reads _ (reads_before (takes_nothing (is_mark_next PlusMark)) (λ rest (end : EndsSum rest). end.no_plus))
-    (then_gives _ (reads_before (takes_nothing (is_mark_next MinusMark)) (λ rest (end : EndsSum rest). end.no_minus))
-      (λ tokens. refl))
+no_joint =
+    then_reads _
+    (takes_nothing_before (is_mark_next PlusMark) (λ rest (end : EndsSum rest). end.no_plus))
+    (then_gives _
+    (takes_nothing_before (is_mark_next MinusMark) (λ rest (end : EndsSum rest). end.no_minus))
+    (λ tokens. refl))
     (λ rest end. end)
 
 reads_joint : (minus : Bool) → ReadsBack Anything joint (32 ∷ (cond minus 45 43 ∷ [])) (Some minus)
@@ -172,8 +180,8 @@ reads_next_term : (x : PlainTerm) → part_fits is_small x.part ≡ true
 unfolding next_term
 reads_next_term x fits = rw joint_text-byte
     (then_reads _ (reads_joint x.minus)
-      (then_gives _ (behind_blank (reads_term x.minus x refl fits)) (λ tokens. refl))
-      (λ rest end. tt))
+    (then_gives _ (behind_blank (reads_term x.minus x refl fits)) (λ tokens. refl))
+    (λ rest end. tt))
 
 takes_joint : (minus : Bool) → TakesToken Anything (32 ∷ (cond minus 45 43 ∷ []))
 unfolding mark_text
@@ -183,7 +191,8 @@ takes_joint true = takes_blank (takes-token (is_mark MinusMark))
 takes_next_term : (x : PlainTerm) → part_fits is_small x.part ≡ true
     → TakesToken EndsPart (joint_text x.minus ++ term_text x)
 takes_next_term x fits = rw joint_text-byte
-    (takes_first (takes_joint x.minus) (behind_blank (reads_term x.minus x refl fits)) (λ rest end. tt))
+    (takes_first (takes_joint x.minus) (behind_blank (reads_term x.minus x refl fits))
+    (λ rest end. tt))
 
 no_term : ReadsBack EndsSum next_term [] None
 unfolding next_term
@@ -205,10 +214,12 @@ not_minus true h = absurd (cc)
 not_minus false h = refl
 
 -- a sum
-pub reads_sum : (xs : List PlainTerm) → terms_fit is_small xs ≡ true → ReadsBack EndsSum sum (terms_text xs) xs
+pub reads_sum : (xs : List PlainTerm) → terms_fit is_small xs ≡ true
+    → ReadsBack EndsSum sum (terms_text xs) xs
 unfolding sum terms_text terms_fit
 reads_sum [] fit = absurd (cc)
 reads_sum (x ∷ xs) fit =
     let parts = and_parts (not x.minus) _ fit in
     let others = and_parts (part_fits is_small x.part) _ parts.1 in
-    reads_list_of (reads_term false x (not_minus x.minus parts.0) others.0) reads_more_terms xs others.1
+    let one = reads_term false x (not_minus x.minus parts.0) others.0 in
+    reads_list_of one reads_more_terms xs others.1

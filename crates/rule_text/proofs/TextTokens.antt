@@ -67,7 +67,8 @@ lexeme_stands place bytes =
       | inl letter ↦ rw letter (word_stands place bytes letter)
       | inr none ↦ rw none (elim (cases_Bool (is_ascii_digit (slice_index bytes 0))) [
         | inl digit ↦ rw digit (number_stands place bytes digit)
-        | inr other ↦ rw other (one_stands place (slice_index bytes 0 == 34) _ _ (quoted_stands place bytes) (mark_stands place bytes))
+        | inr other ↦ rw other (one_stands place (slice_index bytes 0 == 34) _ _
+            (quoted_stands place bytes) (mark_stands place bytes))
       ])
     ]
 
@@ -112,7 +113,8 @@ unfolding tokens_of tokens_at
 tokens_at-text text = tokens_within-pieces (length text) text 0
 
 -- nothing is left
-within_none : (most place : ℕ) (bytes : List ℕ) → length bytes ≡ 0 → tokens_within most place bytes ≡ []
+within_none : (most place : ℕ) (bytes : List ℕ) → length bytes ≡ 0
+    → tokens_within most place bytes ≡ []
 unfolding tokens_within
 within_none zero place bytes none = refl
 within_none (suc most) place [] none = refl
@@ -145,7 +147,8 @@ started : (most place blanks start : ℕ) (bytes rest : List ℕ)
     → prefix_len is_blank bytes ≡ blanks → drop blanks bytes ≡ rest → place + blanks ≡ start
     → tokens_within (suc most) place bytes
     ≡ cond (nat_lt 0 (length rest)) (lexeme_of start rest
-    ∷ tokens_within most (start + (lexeme_of start rest).len) (drop (lexeme_of start rest).len rest)) []
+    ∷ tokens_within most (start + (lexeme_of start rest).len)
+    (drop (lexeme_of start rest).len rest)) []
 unfolding tokens_within
 started most place blanks start bytes rest as_many left here = rw (as_many, left, here) refl
 
@@ -155,7 +158,8 @@ blank_first most place b bytes blank =
     let blanks = prefix_len is_blank bytes in
     started most place (suc blanks) (suc place + blanks) (b ∷ bytes) (drop blanks bytes)
     (rw blank (omega arith)) refl (omega arith)
-    ∙ sym (started most (suc place) blanks (suc place + blanks) bytes (drop blanks bytes) refl refl refl)
+    ∙ sym (started most (suc place) blanks (suc place + blanks) bytes (drop blanks bytes)
+    refl refl refl)
 
 -- a blank in front is passed over
 pub tokens_at-blank : (place b : ℕ) (bytes : List ℕ) → is_blank b ≡ true
@@ -177,7 +181,8 @@ token_first most place b bytes none =
 -- the first token, and those behind it
 pub tokens_at-first : (place b : ℕ) (bytes : List ℕ) → is_blank b ≡ false
     → tokens_at place (b ∷ bytes) ≡ lexeme_of place (b ∷ bytes)
-    ∷ tokens_at (place + (lexeme_of place (b ∷ bytes)).len) (drop (lexeme_of place (b ∷ bytes)).len (b ∷ bytes))
+    ∷ tokens_at (place + (lexeme_of place (b ∷ bytes)).len)
+    (drop (lexeme_of place (b ∷ bytes)).len (b ∷ bytes))
 unfolding tokens_at
 tokens_at-first place b bytes none =
     let next = lexeme_of place (b ∷ bytes) in

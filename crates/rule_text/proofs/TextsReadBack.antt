@@ -1,17 +1,13 @@
 -- What is written of plain statements is read as the same statements.
-use Rattle.std.proofs.Common.{◌≡◌, ℕ, zero, suc, ◌+◌, ◌≤◌, ◌<◌, Bool, true, false, List, [], ◌∷◌, ◌++◌, length, Option, Some, None, option_map, Ok, arith, refl, ap, ◌∙◌}
+use Rattle.std.proofs.Common.{◌≡◌, ℕ, zero, suc, ◌+◌, ◌≤◌, true, List, [], ◌∷◌, ◌++◌, length, Some, None, Ok, arith, refl}
 use Rattle.std.proofs.lemmas.Bool.{and_parts}
 use Rattle.std.specs.List.{list_all}
-use Rattle.rule_text.specs.Readers.{Reader, ◌>>=◌, read_on, give, more_of, many, list_on, ends}
-use Rattle.rule_text.specs.Fronts.{first}
-use Rattle.rule_text.specs.Sentences.{statement, next_statement, statements, statements_of}
-use Rattle.rule_text.specs.Tokens.{tokens_of}
-use Rattle.rule_text.specs.declared.token.Lexeme.{Lexeme}
+use Rattle.rule_text.specs.Readers.{many, list_on, ends}
+use Rattle.rule_text.specs.Sentences.{next_statement, statements, statements_of}
 use Rattle.rule_text.specs.declared.plain.PlainStatement.{PlainStatement}
 use Rattle.rule_text.proofs.PlainTexts.{statement_text, statements_text, placed, is_small, statement_fits}
 use Rattle.rule_text.proofs.TextTokens.{tokens_at, tokens_within, tokens_at-text}
-use Rattle.rule_text.proofs.ReadBack.{ReadsBack, Anything, then_gives}
-use Rattle.rule_text.proofs.StatementsBack.{placed_at, FirstAt, reads_statement, takes_statement, statement_first}
+use Rattle.rule_text.proofs.StatementsBack.{placed_at, reads_statement, takes_statement, statement_first}
 
 no_tokens : (place : ℕ) → tokens_at place [] ≡ []
 unfolding tokens_at tokens_within

@@ -1,16 +1,15 @@
 -- Readers of one token read back what was written.
-use Rattle.std.proofs.Common.{◌≡◌, ℕ, suc, ◌+◌, ◌≤◌, ◌<◌, Bool, true, false, List, [], ◌∷◌, ◌++◌, length, slice_index, nat_le, Option, Some, None, option_map, Ok, pos, codes, arith, refl, ap, ◌∙◌}
+use Rattle.std.proofs.Common.{◌≡◌, ℕ, ◌+◌, ◌≤◌, true, false, List, [], ◌∷◌, ◌++◌, length, slice_index, nat_le, Option, Some, None, Ok, arith, refl, ◌∙◌}
 use Rattle.std.specs.Str.{bytes_eq}
 use Rattle.std.proofs.lemmas.Bool.Decides.{nat_tests}
 use Rattle.std.proofs.lemmas.Slice.Eq.{bytes_eq-Decides}
 use Rattle.reg_base.specs.Codes.{is_code, is_name}
-use Rattle.reg_base.specs.Numbers.{largest_units, sum_text}
+use Rattle.reg_base.specs.Numbers.{largest_units}
 use Rattle.rule_text.specs.Marks.{mark_text}
-use Rattle.rule_text.specs.Readers.{Reader, ◌>>=◌, read_on, give, must, found_or, takes, pick, mark, word, name, code_if, quoted}
-use Rattle.rule_text.specs.Fronts.{first, front, sign_of, word_of, number_of, code_of, break_of, is_mark_next, is_word_next}
+use Rattle.rule_text.specs.Readers.{Reader, takes, pick, mark, word, name, code_if, quoted}
+use Rattle.rule_text.specs.Fronts.{sign_of, word_of, number_of, code_of, break_of, is_mark_next, is_word_next}
 use Rattle.rule_text.specs.Tokens.{is_word_byte, lexeme}
 use Rattle.rule_text.specs.declared.mark.Mark.{Mark}
-use Rattle.rule_text.specs.declared.mark.Mark.TheVariants.{Open, Close, Semicolon, Comma, Equal, Point, Plus, Minus, Less, AtMost, AtLeast, Greater, Differs}
 use Rattle.rule_text.specs.declared.token.Lexeme.{Lexeme}
 use Rattle.rule_text.specs.declared.token.Literal.{Literal}
 use Rattle.rule_text.specs.declared.token.Spelling.{Spelling}
@@ -20,7 +19,7 @@ use Rattle.rule_text.specs.declared.token.Token.TheVariants.{Word, Number, Quote
 use Rattle.rule_text.proofs.PlainTexts.{spelling_text, literal_text, is_named, is_small}
 use Rattle.rule_text.proofs.TextTokens.{tokens_at}
 use Rattle.rule_text.proofs.LexemeLemmas.{EndsMark, EndsPart, quoted_text, tokens_at-word, tokens_at-mark, tokens_at-code, tokens_at-number}
-use Rattle.rule_text.proofs.ReadBack.{ReadsBack, TakesToken, Anything, then_reads, then_gives, reads_nothing, Begins, front-begins, Starts, NotNext, NoneNext}
+use Rattle.rule_text.proofs.ReadBack.{ReadsBack, TakesToken, Anything, then_gives, reads_nothing, Begins, front-begins, Starts, NotNext, NoneNext}
 
 -- no byte of a word follows
 abbrev pub EndsWord : List ℕ → Type 0
@@ -29,7 +28,8 @@ EndsWord rest = is_word_byte (slice_index rest 0) ≡ false
 -- the text is this token
 pub record IsToken (follows : List ℕ → Type 0) (text : List ℕ) (token : Token) : Type 0 where
   pub stands : (place : ℕ) (rest : List ℕ) → follows rest
-      → tokens_at place (text ++ rest) ≡ lexeme place (length text) token ∷ tokens_at (place + length text) rest
+      → tokens_at place (text ++ rest)
+      ≡ lexeme place (length text) token ∷ tokens_at (place + length text) rest
 
 pub is_word : (text : List ℕ) → is_name text ≡ true → IsToken EndsWord text (Word (Named text))
 is_word text named = record { stands = λ place rest end. tokens_at-word place text rest named end }
@@ -37,7 +37,8 @@ is_word text named = record { stands = λ place rest end. tokens_at-word place t
 pub is_mark : (mark : Mark) → IsToken (EndsMark mark) (mark_text mark) (Sign mark)
 is_mark mark = record { stands = λ place rest end. tokens_at-mark place mark rest end }
 
-pub is_quoted : (code : List ℕ) → is_code code ≡ true → IsToken Anything (quoted_text code) (Quoted code)
+pub is_quoted : (code : List ℕ) → is_code code ≡ true
+    → IsToken Anything (quoted_text code) (Quoted code)
 is_quoted code coded = record { stands = λ place rest end. tokens_at-code place code rest coded }
 
 small_digits : (n : ℕ) → nat_le n largest_units ≡ true → n ≤ largest_units
@@ -48,18 +49,21 @@ pub is_number : (literal : Literal) → is_small literal ≡ true
 unfolding literal_text
 is_number literal small = record {
   stands = λ place rest end.
-      tokens_at-number place literal.digits literal.decimals rest (small_digits literal.digits small) end;
+      let within = small_digits literal.digits small in
+      tokens_at-number place literal.digits literal.decimals rest within end;
 }
 
 -- a token takes itself
-pub takes-token : {follows : List ℕ → Type 0} {text : List ℕ} {token : Token} → IsToken follows text token
+pub takes-token : {follows : List ℕ → Type 0} {text : List ℕ} {token : Token}
+    → IsToken follows text token
     → TakesToken follows text
 takes-token {text = text} is = record {
   taken = λ place rest end. rw (is.stands place rest end) (omega arith);
 }
 
 -- a token begins what it stands in front of
-pub begins-token : {follows : List ℕ → Type 0} {text : List ℕ} {token : Token} → IsToken follows text token
+pub begins-token : {follows : List ℕ → Type 0} {text : List ℕ} {token : Token}
+    → IsToken follows text token
     → (rest : List ℕ) → follows rest → Begins token (text ++ rest)
 begins-token is rest end = record {
   first_is = λ place. rw (is.stands place rest end) refl;
@@ -68,11 +72,13 @@ begins-token is rest end = record {
 -- a reader of one token reads it back
 pub reads_token : {X : Type 0} {follows : List ℕ → Type 0} {text : List ℕ} {token : Token}
     → IsToken follows text token → (read : Reader X) (x : X)
-    → ((place len : ℕ) (tokens : List Lexeme) → read (lexeme place len token ∷ tokens) ≡ Ok (x, tokens))
+    → ((place len : ℕ) (tokens : List Lexeme)
+    → read (lexeme place len token ∷ tokens) ≡ Ok (x, tokens))
     → ReadsBack follows read text x
 reads_token {text = text} is read x reads = record {
   reads = λ place rest end.
-      rw (is.stands place rest end) (reads place (length text) (tokens_at (place + length text) rest));
+      rw (is.stands place rest end)
+      (reads place (length text) (tokens_at (place + length text) rest));
   fewer = λ place rest end. rw (is.stands place rest end) (omega arith);
 }
 
@@ -84,7 +90,8 @@ unfolding mark
 reads_mark sign = reads_token (is_mark sign) (mark sign) tt
     (λ place len tokens. rw (same_bytes (mark_text sign)) refl)
 
-pub takes_mark : (sign : Mark) → ReadsBack (EndsMark sign) (takes (is_mark_next sign)) (mark_text sign) true
+pub takes_mark : (sign : Mark)
+    → ReadsBack (EndsMark sign) (takes (is_mark_next sign)) (mark_text sign) true
 takes_mark sign = reads_token (is_mark sign) (takes (is_mark_next sign)) true
     (λ place len tokens. rw (same_bytes (mark_text sign)) refl)
 
@@ -93,7 +100,8 @@ unfolding word
 reads_word text named = reads_token (is_word text named) (word text) tt
     (λ place len tokens. rw (same_bytes text) refl)
 
-pub takes_word : (text : List ℕ) → is_name text ≡ true → ReadsBack EndsWord (takes (is_word_next text)) text true
+pub takes_word : (text : List ℕ) → is_name text ≡ true
+    → ReadsBack EndsWord (takes (is_word_next text)) text true
 takes_word text named = reads_token (is_word text named) (takes (is_word_next text)) true
     (λ place len tokens. rw (same_bytes text) refl)
 
@@ -104,12 +112,14 @@ reads_name (Named text) named =
     reads_token (is_word text named) name (Named text) (λ place len tokens. refl)
 reads_name Other named = absurd (cc)
 
-pub reads_code_if : (code : List ℕ) → is_code code ≡ true → ReadsBack Anything code_if (quoted_text code) (Some code)
+pub reads_code_if : (code : List ℕ) → is_code code ≡ true
+    → ReadsBack Anything code_if (quoted_text code) (Some code)
 unfolding code_if
 reads_code_if code coded =
     reads_token (is_quoted code coded) code_if (Some code) (λ place len tokens. refl)
 
-pub reads_quoted : (code : List ℕ) → is_code code ≡ true → ReadsBack Anything quoted (quoted_text code) code
+pub reads_quoted : (code : List ℕ) → is_code code ≡ true
+    → ReadsBack Anything quoted (quoted_text code) code
 unfolding quoted
 reads_quoted code coded = then_gives _ (reads_code_if code coded) (λ tokens. refl)
 
@@ -125,7 +135,8 @@ pub record NoCode (rest : List ℕ) : Type 0 where
 
 pub no_code_if : ReadsBack NoCode code_if [] None
 unfolding code_if
-no_code_if = reads_nothing code_if None (λ place rest none. rw (none.no_code place, none.no_break place) refl)
+no_code_if = reads_nothing code_if None
+    (λ place rest none. rw (none.no_code place, none.no_break place) refl)
 
 -- what comes next is known by the first token
 pub not_word : {token : Token} {rest : List ℕ} → Begins token rest → (text : List ℕ)
@@ -136,7 +147,8 @@ pub not_mark : {token : Token} {rest : List ℕ} → Begins token rest → (sign
     → is_mark_next sign (lexeme 0 0 token ∷ []) ≡ false → NotNext (is_mark_next sign) rest
 not_mark begins sign other place = rw (front-begins begins sign_of place) other
 
-pub none_next : {X : Type 0} {token : Token} {rest : List ℕ} → Begins token rest → (gives : Token → Option X)
+pub none_next : {X : Type 0} {token : Token} {rest : List ℕ} → Begins token rest
+    → (gives : Token → Option X)
     → gives token ≡ None → NoneNext gives rest
 none_next begins gives none place = front-begins begins gives place ∙ none
 
@@ -147,7 +159,8 @@ no_code_next begins code break = record {
   no_break = none_next begins break_of break;
 }
 
-pub starts-token : {follows : List ℕ → Type 0} {text : List ℕ} {token : Token} → IsToken follows text token
+pub starts-token : {follows : List ℕ → Type 0} {text : List ℕ} {token : Token}
+    → IsToken follows text token
     → Starts follows token text
 starts-token is = record { begins = begins-token is }
 
