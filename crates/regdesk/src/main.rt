@@ -1,40 +1,18 @@
 //! regdesk: a posting desk for accumulation registers.
 //!
-//! Means: the output is a function of the configuration and the bytes of the input: the answers to
-//! its lines, one after another; `specs/Runs.antt` says it for each way in which a run ends.
+//! Means: the program is `desk_main` over the real words, files and streams.
 //!
-//! Stands on: `desk_core` for what a line is answered, `reg_io` for the outside, `cfg_model` for
-//! the configuration.
+//! Stands on: `desk_run` for the run, `reg_io` for the adapters.
 //!
-//! Promises: each status has its cause, and what was written before it.
+//! Promises: it ends with the status that `desk_main` gives.
 //!
-//! Leaves open: when memory is refused.
+//! Leaves open: what the system's files and streams hold.
 #![tactic(auto)]
 
-mod complaint;
-mod desk_main;
-#[cfg(test)]
-mod failing_table;
-mod fault;
-#[cfg(test)]
-mod field_rows;
-#[cfg(test)]
-mod line_rows;
-#[cfg(test)]
-mod line_table;
 mod program;
-#[cfg(test)]
-mod rules_table;
-mod run;
-#[cfg(test)]
-mod spaces_table;
-#[cfg(test)]
-mod tests;
 
-pub use desk_main::{Finish, MOST_CONFIG_BYTES, desk_main};
-pub use fault::Fault;
+use desk_run::desk_main;
 use reg_io::{Folder, MemoryDisk, ReaderSource, WriterSink};
-pub use run::{MOST_INPUT_BYTES, RunEnd, run_lines};
 use std::process::ExitCode;
 
 fn main(rt: HostRuntime) -> ExitCode {

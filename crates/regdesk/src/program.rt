@@ -1,10 +1,9 @@
 //! What the program is asked, before the top call can be made.
 ghost use Rattle.std.specs.Prelude.{◌≡◌, ◌⊎◌, IfErr};
 ghost use Rattle.std.specs.Process.{exit_status};
-ghost use Rattle.regdesk.specs.Statuses.{status_of};
+ghost use Rattle.desk_run.specs.Statuses.{status_of};
 
-use crate::complaint::complain;
-use crate::fault::{Fault, end_status};
+use desk_run::{Fault, complain, end_status};
 use reg_io::Sink;
 use std::alloc::Global;
 use std::process::ExitCode;

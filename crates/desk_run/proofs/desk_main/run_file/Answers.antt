@@ -1,0 +1,13 @@
+use Rattle.desk_run.proofs.RunLemmas.{is_fault}
+use Rattle.desk_run.proofs.CallEnds.{RunsFile-fault}
+use Rattle.desk_run.proofs.desk_main.run_file.Goals as goal
+
+pub returns-in_err-run_config : goal.returns-in_err-run_config
+returns-in_err-run_config g c = record {
+  runs = rw (is_fault c.from_residual-in_err-run_config.result _ c.from_residual-in_err-run_config.ensures)
+      (RunsFile-fault _
+      (record { files = g.F.Shelf.files c.args.shelf.now; faults = g.F.Shelf.faults c.args.shelf.now })
+      (record { files = g.F.Shelf.files c.read_config.new.shelf; faults = g.F.Shelf.faults c.read_config.new.shelf })
+      _ _ _ c.in_ok-config.config c.in_ok-config.ensures.reads
+      c.in_err-run_config.ensures.runs);
+}

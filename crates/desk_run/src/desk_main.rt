@@ -1,0 +1,169 @@
+//! The top call: what the words ask, on the objects that are handed in.
+ghost use Rattle.std.specs.Prelude.{◌≡◌, ◌↔◌, List, map, string_bytes};
+ghost use Rattle.reg_io.specs.declared.line.Line.{Line};
+ghost use Rattle.cfg_model.specs.declared.config.Config.{Config};
+ghost use Rattle.desk_core.specs.State.{first_desk};
+ghost use Rattle.desk_core.specs.Laws.{BalancesHold};
+ghost use Rattle.desk_run.specs.Ends.{first_opened, AskNothing, Ends, Finishes, ReadsConfig, RunsFile, RunsWith};
+
+use crate::complaint::complain;
+use crate::fault::{Fault, end_status};
+use crate::run::{RunEnd, run_lines};
+use cfg_model::Config;
+use desk_core::Desk;
+use reg_io::{Disk, Shelf, Sink, Source};
+use rule_lang::Rules;
+use std::alloc::Global;
+use std::thread::Threads;
+
+/// How many bytes a configuration file has at the most.
+pub const MOST_CONFIG_BYTES: u64 = 1_048_576;
+
+/// How a top call ended, with the disk handed back.
+#[derive(Drop)]
+pub struct Finish<D> {
+    /// 0, or the number of the fault.
+    pub status: u8,
+    pub disk: D,
+}
+
+/// Does what the words ask. With a status above 0 its line goes to `err`, whose faults change
+/// nothing.
+pub fn desk_main<R: Threads + Sync, F: Shelf, D: Disk + Send, S: Source, O: Sink, E: Sink>(
+    rt: &R,
+    alloc: Global,
+    words: &[String],
+    shelf: &mut F,
+    disk: D,
+    input: &mut S,
+    out: &mut O,
+    err: &mut E,
+) -> Finish<D>
+    ensures ends { Finishes (map (λ w. string_bytes w) words.now)
+        (record { files = F.files shelf.old; faults = F.faults shelf.old })
+        (record { files = F.files shelf.new; faults = F.faults shelf.new })
+        (record {
+          left = S.left input.old;
+          read_faults = S.read_faults input.old;
+          taken = O.taken out.old;
+          write_faults = O.write_faults out.old;
+        })
+        (record {
+          left = S.left input.new;
+          read_faults = S.read_faults input.new;
+          taken = O.taken out.new;
+          write_faults = O.write_faults out.new;
+        })
+        (E.taken err.old) (E.taken err.new) (E.write_faults err.old) (E.write_faults err.new)
+        result.status }
+
+    // Wrong words alone end with 2.
+    ensures words { (result.status ≡ 2) ↔ AskNothing (map (λ w. string_bytes w) words.now) }
+    ensures disk { result.disk ≡ disk }
+
+    // Each accepted balance among the lines of an input is the sum over the records at its point.
+    ensures balances { (config : Config) (lines : List Line)
+        → BalancesHold (first_opened config).setting first_desk lines }
+{
+    let _ = rt;
+    let end = run_words(alloc, words, shelf, input, out);
+    complain(alloc, words, &end, err);
+    Finish {
+        status: end_status(&end),
+        disk,
+    }
+}
+
+fn run_words<F: Shelf, S: Source, O: Sink>(
+    alloc: Global,
+    words: &[String],
+    shelf: &mut F,
+    input: &mut S,
+    out: &mut O,
+) -> Result<(), Fault>
+    ensures ends { Ends (map (λ w. string_bytes w) words.now)
+        (record { files = F.files shelf.old; faults = F.faults shelf.old })
+        (record { files = F.files shelf.new; faults = F.faults shelf.new })
+        (record {
+          left = S.left input.old;
+          read_faults = S.read_faults input.old;
+          taken = O.taken out.old;
+          write_faults = O.write_faults out.old;
+        })
+        (record {
+          left = S.left input.new;
+          read_faults = S.read_faults input.new;
+          taken = O.taken out.new;
+          write_faults = O.write_faults out.new;
+        }) result }
+{
+    match words {
+        [run, name] if run.as_str() == "run" => run_file(alloc, name.as_str(), shelf, input, out),
+        _ => Err(Fault::Usage),
+    }
+}
+
+// Runs the lines of the input under the configuration of this name.
+fn run_file<F: Shelf, S: Source, O: Sink>(
+    alloc: Global,
+    name: &str,
+    shelf: &mut F,
+    input: &mut S,
+    out: &mut O,
+) -> Result<(), Fault>
+    ensures runs { RunsFile name.now
+        (record { files = F.files shelf.old; faults = F.faults shelf.old })
+        (record { files = F.files shelf.new; faults = F.faults shelf.new })
+        (record {
+          left = S.left input.old;
+          read_faults = S.read_faults input.old;
+          taken = O.taken out.old;
+          write_faults = O.write_faults out.old;
+        })
+        (record {
+          left = S.left input.new;
+          read_faults = S.read_faults input.new;
+          taken = O.taken out.new;
+          write_faults = O.write_faults out.new;
+        }) result }
+{
+    let config = read_config(alloc, name, shelf)?;
+    run_config(alloc, config, input, out)?;
+    Ok(())
+}
+
+// Runs the lines of the input at a desk that is opened with the configuration.
+fn run_config<S: Source, O: Sink>(
+    alloc: Global,
+    config: Config,
+    input: &mut S,
+    out: &mut O,
+) -> Result<(), RunEnd>
+    ensures runs { RunsWith config
+        (record {
+          left = S.left input.old;
+          read_faults = S.read_faults input.old;
+          taken = O.taken out.old;
+          write_faults = O.write_faults out.old;
+        })
+        (record {
+          left = S.left input.new;
+          read_faults = S.read_faults input.new;
+          taken = O.taken out.new;
+          write_faults = O.write_faults out.new;
+        }) result }
+{
+    let mut desk = Desk::open(alloc, config);
+    run_lines(alloc, &mut desk, input, out)
+}
+
+fn read_config<F: Shelf>(alloc: Global, name: &str, shelf: &mut F) -> Result<Config, Fault>
+    ensures reads { ReadsConfig name.now
+        (record { files = F.files shelf.old; faults = F.faults shelf.old })
+        (record { files = F.files shelf.new; faults = F.faults shelf.new }) result }
+{
+    let bytes = shelf.read_file(alloc, name, MOST_CONFIG_BYTES)?;
+    let config = Config::read(alloc, bytes.as_slice())?;
+    Rules::read(alloc, &config)?;
+    Ok(config)
+}

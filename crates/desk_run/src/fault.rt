@@ -1,0 +1,107 @@
+//! Why a top call did not end well: its status and its line on the error output.
+ghost use Rattle.std.specs.Prelude.{◌≡◌};
+ghost use Rattle.desk_run.specs.Statuses.{status_of, end_status, file_fault, config_fault, rules_fault, run_fault};
+
+use crate::run::RunEnd;
+use cfg_model::CfgFault;
+use reg_io::ShelfFault;
+use rule_lang::RuleFault;
+
+/// Why a top call did not end well.
+#[derive(Debug, Drop)]
+pub enum Fault {
+    /// The words ask for nothing that is built.
+    Usage,
+    /// The configuration is refused.
+    Configuration { fault: CfgFault },
+    /// The rules of a document type are refused.
+    Rules { fault: RuleFault },
+    /// Memory was refused.
+    Memory,
+    /// A read of the input failed.
+    Read,
+    /// A write to the output failed.
+    Write,
+    /// The file could not be read.
+    File,
+    /// The file has too many bytes.
+    FileTooLong,
+    /// The input has too many bytes.
+    InputTooLong,
+}
+
+impl Fault {
+    /// The status that the program ends with.
+    pub fn status(&self) -> u8
+        ensures { result ≡ status_of self.now }
+    {
+        match self {
+            Fault::Usage => 2,
+            Fault::Configuration { .. } => 3,
+            Fault::Rules { .. } => 3,
+            Fault::Memory => 4,
+            Fault::Read => 7,
+            Fault::Write => 8,
+            Fault::File => 9,
+            Fault::FileTooLong => 11,
+            Fault::InputTooLong => 11,
+        }
+    }
+}
+
+/// The status of an end, 0 where it is good.
+pub fn end_status(end: &Result<(), Fault>) -> u8
+    ensures { result ≡ end_status end.now }
+{
+    match end {
+        Ok(()) => 0,
+        Err(fault) => fault.status(),
+    }
+}
+
+impl From<ShelfFault> for Fault {
+    ghost from_gives = { λ fault e. e ≡ file_fault fault };
+
+    fn from(fault: ShelfFault) -> Fault {
+        match fault {
+            ShelfFault::Failed => Fault::File,
+            ShelfFault::TooLong => Fault::FileTooLong,
+            ShelfFault::Memory => Fault::Memory,
+        }
+    }
+}
+
+impl From<CfgFault> for Fault {
+    ghost from_gives = { λ fault e. e ≡ config_fault fault };
+
+    fn from(fault: CfgFault) -> Fault {
+        match fault {
+            CfgFault::Memory => Fault::Memory,
+            fault => Fault::Configuration { fault },
+        }
+    }
+}
+
+impl From<RuleFault> for Fault {
+    ghost from_gives = { λ fault e. e ≡ rules_fault fault };
+
+    fn from(fault: RuleFault) -> Fault {
+        match fault {
+            RuleFault::Memory => Fault::Memory,
+            fault => Fault::Rules { fault },
+        }
+    }
+}
+
+impl From<RunEnd> for Fault {
+    ghost from_gives = { λ end e. e ≡ run_fault end };
+
+    fn from(end: RunEnd) -> Fault {
+        match end {
+            RunEnd::Memory => Fault::Memory,
+            RunEnd::Read => Fault::Read,
+            RunEnd::Write => Fault::Write,
+            RunEnd::InputTooLong => Fault::InputTooLong,
+        }
+    }
+}

@@ -1,0 +1,22 @@
+//! The run of a desk: words, a configuration and an input in, a status and what was written out.
+//!
+//! Means: the output is a function of the configuration and the bytes of the input: the answers to
+//! its lines, one after another; `specs/Runs.antt` says it for each way in which a run ends.
+//!
+//! Stands on: `desk_core` for what a line is answered, `reg_io` for the outside, `cfg_model` for
+//! the configuration.
+//!
+//! Promises: each status has its cause, and what was written before it.
+//!
+//! Leaves open: when memory is refused.
+#![tactic(auto)]
+
+mod complaint;
+mod desk_main;
+mod fault;
+mod run;
+
+pub use complaint::complain;
+pub use desk_main::{Finish, MOST_CONFIG_BYTES, desk_main};
+pub use fault::{Fault, end_status};
+pub use run::{MOST_INPUT_BYTES, RunEnd, run_lines};

@@ -1,8 +1,0 @@
-use Rattle.regdesk.proofs.CallEnds.{RunsWith-opened}
-use Rattle.regdesk.proofs.desk_main.run_config.Goals as goal
-
-pub returns : goal.returns
-returns g c = record {
-  runs = RunsWith-opened c.open-desk.result c.args.config c.run_lines.new.desk _ _ c.run_lines.result
-      c.open-desk.ensures c.run_lines.ensures.runs;
-}
