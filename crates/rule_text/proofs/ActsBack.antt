@@ -57,6 +57,7 @@ not_close (LineCode spelling) = refl
 abbrev extras_text : List PlainCode → List ℕ
 extras_text xs = joined (λ _. codes ", ") code_text xs
 
+-- the codes behind an account, where a closing mark follows
 reads_extras : (xs : List PlainCode) → list_all code_fits xs ≡ true
     → ReadsBack EndsExtras extra_codes (extras_text xs) xs
 unfolding extra_codes mark_text
@@ -71,6 +72,7 @@ reads_extras (x ∷ xs) fit =
     reads_as extra_codes (reads_before all extras_end)
     (λ place rest end. rw (not_mark (starts.begins rest end) Close (not_close x) place) refl)
 
+-- an account with the codes behind it
 abbrev account_text : PlainSide → List ℕ
 account_text x = code_text x.account ++ (codes "(" ++ (extras_text x.extras ++ codes ")"))
 
@@ -124,6 +126,7 @@ reads_sides x debit credit =
     (λ rest end. refl))
     (λ rest end. refl)
 
+-- a sum ends at a closing mark, and so does a list of sums
 sum_before_close : (rest : List ℕ) → EndsSum (codes ")" ++ rest)
 unfolding mark_text
 sum_before_close rest = ends_sum (begins-token (is_mark Close) rest tt)
@@ -136,11 +139,11 @@ amounts_before_close rest = record {
   no_comma = not_mark (begins-token (is_mark Close) rest tt) Comma refl;
 }
 
+-- what stands behind each verb is read back
 reads_make : (kind : Verb) (to : Target) (sums : List PlainAmount) → target_fits to ≡ true
     → amounts_fit is_small sums ≡ true
     → ReadsBack Anything (make kind)
-    (target_text to ++ (codes " " ++ (amounts_text sums ++ codes ")")))
-    (Make kind to sums)
+    (target_text to ++ (codes " " ++ (amounts_text sums ++ codes ")"))) (Make kind to sums)
 unfolding make mark_text
 reads_make kind to sums target_fit sums_fit =
     then_reads _ (reads_target to target_fit)
@@ -202,14 +205,8 @@ reads_control register resource named also =
     (then_gives _ (behind_blank (reads_name resource also)) (λ tokens. refl))
     (λ rest end. refl)
 
-sum_before_semicolon : (rest : List ℕ) → EndsSum (codes ";" ++ rest)
-unfolding mark_text
-sum_before_semicolon rest = ends_sum (begins-token (is_mark Semicolon) rest tt)
-    (record { no_word = refl; no_point = refl }) refl refl
-
 reads_entry : (ledger : Spelling) (written : PlainSides) (amount : List PlainTerm)
-    → is_named ledger ≡ true
-    → side_fits written.debit ≡ true → side_fits written.credit ≡ true
+    → is_named ledger ≡ true → side_fits written.debit ≡ true → side_fits written.credit ≡ true
     → terms_fit is_small amount ≡ true
     → ReadsBack Anything entry (spelling_text ledger ++ (codes "(" ++ (sides_text written
     ++ (codes "; " ++ (terms_text amount ++ codes ")"))))) (Entry ledger written amount)
@@ -227,9 +224,9 @@ reads_entry ledger written amount named debit credit fits =
     (λ rest end. tt))
     (λ rest end. refl)
 
+-- a verb opens what it is to open
 reads_verb : (text : List ℕ) → is_name text ≡ true → (opening : Opening)
-    → opening_of (Named text) ≡ Some opening
-    → ReadsBack EndsWord verb text opening
+    → opening_of (Named text) ≡ Some opening → ReadsBack EndsWord verb text opening
 unfolding verb
 reads_verb text named opening opens =
     reads_token (is_word text named) verb opening (λ place len tokens. rw opens refl)

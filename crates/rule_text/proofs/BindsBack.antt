@@ -32,6 +32,7 @@ code_token (Text text) = Quoted text
 code_token (HeadCode spelling) = Word (Named (codes "head"))
 code_token (LineCode spelling) = Word (Named (codes "line"))
 
+-- a code starts with its token
 pub starts_code : (x : PlainCode) → code_fits x ≡ true
     → Starts EndsWord (code_token x) (code_text x)
 unfolding code_token code_text code_fits is_name
@@ -73,8 +74,8 @@ pub record EndsList (follows : List ℕ → Type 0) (rest : List ℕ) : Type 0 w
 
 -- one more element behind a comma
 pub reads_after_comma : {X : Type 0} {follows : List ℕ → Type 0} (read : Reader X)
-    → (text : X → List ℕ)
-    → (fits : X → Bool) → ((x : X) → fits x ≡ true → ReadsBack follows read (text x) x)
+    → (text : X → List ℕ) (fits : X → Bool)
+    → ((x : X) → fits x ≡ true → ReadsBack follows read (text x) x)
     → ((rest : List ℕ) → follows (codes ", " ++ rest))
     → ReadsMore follows (EndsList follows) (after_comma read) (λ x. codes ", " ++ text x) fits
 unfolding mark_text
@@ -130,6 +131,7 @@ unfoldable pub target_text : Target → List ℕ
 target_text target =
     spelling_text target.register ++ (codes "(" ++ (binds_text target.binds ++ codes ";"))
 
+-- what a target is read from stands up to the semicolon behind its dimensions
 pub reads_target : (x : Target) → target_fits x ≡ true → ReadsBack Anything target (target_text x) x
 unfolding target target_text mark_text
 reads_target x fits =
@@ -145,8 +147,7 @@ reads_target x fits =
 -- a sum ends where its last part does and no mark joins one more term
 pub ends_sum : {token : Token} {rest : List ℕ} → Begins token rest → EndsPart rest
     → is_mark_next Plus (lexeme 0 0 token ∷ []) ≡ false
-    → is_mark_next Minus (lexeme 0 0 token ∷ []) ≡ false
-    → EndsSum rest
+    → is_mark_next Minus (lexeme 0 0 token ∷ []) ≡ false → EndsSum rest
 ends_sum begins part plus minus = record {
   part = part;
   no_plus = not_mark begins Plus plus;
@@ -165,6 +166,7 @@ reads_amount x fits =
     (λ rest end. tt))
     (λ rest end. refl)
 
+-- a sum ends at a comma
 pub sum_before_comma : (rest : List ℕ) → EndsSum (codes ", " ++ rest)
 unfolding mark_text
 sum_before_comma rest = ends_sum (begins-token (is_mark Comma) (32 ∷ rest) tt)

@@ -32,6 +32,7 @@ use Rattle.rule_text.proofs.BindsBack.{ends_sum}
 abbrev EndsTest : List ℕ → Type 0
 EndsTest rest = is_blank (slice_index rest 0) ≡ true
 
+-- the mark of a test, and that between codes
 reads_test : (x : Test) → ReadsBack EndsTest test (test_text x) x
 unfolding test test_of test_text mark_text
 reads_test Less = reads_token (is_mark LessMark) test Less (λ place len tokens. refl)
@@ -50,13 +51,14 @@ unfolding equality equality_of test_of mark_text
 reads_equality true = reads_token (is_mark EqualMark) equality true (λ place len tokens. refl)
 reads_equality false = reads_token (is_mark DiffersMark) equality false (λ place len tokens. refl)
 
+-- a sum ends at a blank and a token that joins no term
 before_test : {token : Token} {rest : List ℕ} → Begins token rest
     → is_mark_next PlusMark (lexeme 0 0 token ∷ []) ≡ false
     → is_mark_next MinusMark (lexeme 0 0 token ∷ []) ≡ false → EndsSum (32 ∷ rest)
 before_test {rest = rest} begins plus minus =
     ends_sum (begins-blank begins) (ends_blank rest) plus minus
 
--- a sum goes on neither with a test nor with what stands behind it
+-- a sum ends at the mark of a test
 sum_before_test : (x : Test) (rest : List ℕ)
     → EndsSum (codes " " ++ (test_text x ++ (codes " " ++ rest)))
 unfolding test_text mark_text

@@ -16,21 +16,19 @@ pub record ReadsMore {X : Type 0} (follows ends : List ℕ → Type 0) (next : R
   pub none : ReadsBack ends next [] None
   pub ended : (rest : List ℕ) → ends rest → follows rest
 
--- what follows an element may follow it
+-- more elements, or none and what may follow them, may follow an element
 pub may_follow : {X : Type 0} {follows ends : List ℕ → Type 0} {next : Reader (Option X)}
-    → {piece : X → List ℕ}
-    → {fits : X → Bool} → ReadsMore follows ends next piece fits → (xs : List X) (rest : List ℕ)
-    → ends rest
-    → follows (flat_map piece xs ++ rest)
+    → {piece : X → List ℕ} {fits : X → Bool} → ReadsMore follows ends next piece fits
+    → (xs : List X) (rest : List ℕ) → ends rest → follows (flat_map piece xs ++ rest)
 may_follow h [] rest end = h.ended rest end
 may_follow {piece = piece} h (x ∷ xs) rest end =
     rw append_assoc (h.goes_on x (flat_map piece xs ++ rest))
 
+-- all elements are read back, where at least as many may follow
 reads_many : {X : Type 0} {follows ends : List ℕ → Type 0} {next : Reader (Option X)}
-    → {piece : X → List ℕ}
-    → {fits : X → Bool} → ReadsMore follows ends next piece fits → (xs : List X)
-    → list_all fits xs ≡ true
-    → (most : ℕ) → length xs ≤ most → ReadsBack ends (many next most) (flat_map piece xs) xs
+    → {piece : X → List ℕ} {fits : X → Bool} → ReadsMore follows ends next piece fits
+    → (xs : List X) → list_all fits xs ≡ true → (most : ℕ) → length xs ≤ most
+    → ReadsBack ends (many next most) (flat_map piece xs) xs
 unfolding many
 reads_many h [] fit zero enough = reads_nothing _ [] (λ place rest end. refl)
 reads_many h [] fit (suc most) enough = then_gives _ h.none (λ tokens. refl)
@@ -43,10 +41,8 @@ reads_many {next = next} {piece = piece} {fits = fits} h (x ∷ xs) fit (suc mos
 
 -- there are at least as many tokens as elements
 count : {X : Type 0} {follows ends : List ℕ → Type 0} {next : Reader (Option X)}
-    → {piece : X → List ℕ}
-    → {fits : X → Bool} → ReadsMore follows ends next piece fits → (xs : List X)
-    → list_all fits xs ≡ true
-    → (place : ℕ) (rest : List ℕ) → ends rest
+    → {piece : X → List ℕ} {fits : X → Bool} → ReadsMore follows ends next piece fits
+    → (xs : List X) → list_all fits xs ≡ true → (place : ℕ) (rest : List ℕ) → ends rest
     → length xs + length (tokens_at (place + length (flat_map piece xs)) rest)
     ≤ length (tokens_at place (flat_map piece xs ++ rest))
 count h [] fit place rest end =
@@ -64,9 +60,8 @@ count {piece = piece} {fits = fits} h (x ∷ xs) fit place rest end =
 
 -- behind those in front, all others
 pub reads_list_on : {X : Type 0} {follows ends : List ℕ → Type 0} {next : Reader (Option X)}
-    → {piece : X → List ℕ}
-    → {fits : X → Bool} → ReadsMore follows ends next piece fits → (former xs : List X)
-    → list_all fits xs ≡ true
+    → {piece : X → List ℕ} {fits : X → Bool} → ReadsMore follows ends next piece fits
+    → (former xs : List X) → list_all fits xs ≡ true
     → ReadsBack ends (list_on former next) (flat_map piece xs) (former ++ xs)
 unfolding list_on
 reads_list_on {piece = piece} h former xs fit = record {
@@ -81,9 +76,9 @@ reads_list_on {piece = piece} h former xs fit = record {
 
 -- one element, and all others behind it
 pub reads_list_of : {X : Type 0} {follows ends : List ℕ → Type 0} {read : Reader X}
-    → {next : Reader (Option X)}
-    → {text : List ℕ} {piece : X → List ℕ} {fits : X → Bool} {x : X} → ReadsBack follows read text x
-    → ReadsMore follows ends next piece fits → (xs : List X) → list_all fits xs ≡ true
+    → {next : Reader (Option X)} {text : List ℕ} {piece : X → List ℕ} {fits : X → Bool} {x : X}
+    → ReadsBack follows read text x → ReadsMore follows ends next piece fits
+    → (xs : List X) → list_all fits xs ≡ true
     → ReadsBack ends (list_of read next) (text ++ flat_map piece xs) (x ∷ xs)
 unfolding list_of
 reads_list_of {next = next} {x = x} h more xs fit =

@@ -33,7 +33,7 @@ tokens_behind place former back rest =
     simp length-append (omega arith) in
     ap (λ n. tokens_at n rest) same
 
--- one behind the other
+-- a reader and the next read back one text behind the other, where the latter may follow the former
 pub then_reads : {X Y : Type 0} {follows ends : List ℕ → Type 0} {read : Reader X}
     → {former back : List ℕ} {x : X} {y : Y} → (next : X → Reader Y)
     → ReadsBack follows read former x → ReadsBack ends (next x) back y
@@ -50,7 +50,7 @@ then_reads {former = former} {back = back} next h k behind = record {
       rw (append_assoc, ← (tokens_behind place former back rest)) (omega arith);
 }
 
--- what is done with the value takes no token
+-- a reader reads back its text, where what is done with the value takes no token
 pub then_gives : {X Y : Type 0} {follows : List ℕ → Type 0} {read : Reader X}
     → {text : List ℕ} {x : X} {y : Y} → (next : X → Reader Y) → ReadsBack follows read text x
     → ((tokens : List Lexeme) → next x tokens ≡ Ok (y, tokens))
@@ -61,7 +61,7 @@ then_gives {text = text} next h given = record {
   fewer = h.fewer;
 }
 
--- no token is taken
+-- a reader that takes no token reads back nothing
 pub reads_nothing : {X : Type 0} {follows : List ℕ → Type 0} (read : Reader X) (x : X)
     → ((place : ℕ) (rest : List ℕ) → follows rest
     → read (tokens_at place rest) ≡ Ok (x, tokens_at place rest))
@@ -75,10 +75,9 @@ reads_nothing read x given = record {
       rw here (omega arith);
 }
 
--- a blank in front
+-- a blank in front is passed over
 pub behind_blank : {X : Type 0} {follows : List ℕ → Type 0} {read : Reader X} {text : List ℕ}
-    → {x : X}
-    → ReadsBack follows read text x → ReadsBack follows read (32 ∷ text) x
+    → {x : X} → ReadsBack follows read text x → ReadsBack follows read (32 ∷ text) x
 behind_blank {text = text} h = record {
   reads = λ place rest end.
       let here : place + suc (length text) ≡ suc place + length text = omega arith in
@@ -90,8 +89,7 @@ behind_blank {text = text} h = record {
 
 -- less may follow
 pub reads_before : {X : Type 0} {follows ends : List ℕ → Type 0} {read : Reader X} {text : List ℕ}
-    → {x : X}
-    → ReadsBack follows read text x → ((rest : List ℕ) → ends rest → follows rest)
+    → {x : X} → ReadsBack follows read text x → ((rest : List ℕ) → ends rest → follows rest)
     → ReadsBack ends read text x
 reads_before h narrow = record {
   reads = λ place rest end. h.reads place rest (narrow rest end);
@@ -103,10 +101,9 @@ pub before_less : {X : Type 0} {follows : List ℕ → Type 0} {read : Reader X}
     → ReadsBack Anything read text x → ReadsBack follows read text x
 before_less h = reads_before h (λ rest end. tt)
 
--- a token in front
+-- a text has a token where its former part has one
 pub takes_first : {X : Type 0} {follows ends : List ℕ → Type 0} {read : Reader X}
-    → {former back : List ℕ} {x : X}
-    → TakesToken follows former → ReadsBack ends read back x
+    → {former back : List ℕ} {x : X} → TakesToken follows former → ReadsBack ends read back x
     → ((rest : List ℕ) → ends rest → follows (back ++ rest)) → TakesToken ends (former ++ back)
 takes_first {former = former} {back = back} h k behind = record {
   taken = λ place rest end.
@@ -115,10 +112,9 @@ takes_first {former = former} {back = back} h k behind = record {
       rw (append_assoc, ← (tokens_behind place former back rest)) (omega arith);
 }
 
--- a token behind
+-- a text has a token where its later part has one
 pub takes_later : {X : Type 0} {follows ends : List ℕ → Type 0} {read : Reader X}
-    → {former back : List ℕ} {x : X}
-    → ReadsBack follows read former x → TakesToken ends back
+    → {former back : List ℕ} {x : X} → ReadsBack follows read former x → TakesToken ends back
     → ((rest : List ℕ) → ends rest → follows (back ++ rest)) → TakesToken ends (former ++ back)
 takes_later {former = former} {back = back} h k behind = record {
   taken = λ place rest end.
@@ -155,6 +151,7 @@ pub front-begins : {X : Type 0} {token : Token} {rest : List ℕ} → Begins tok
 front-begins {token = token} {rest = rest} begins gives place =
     front_first gives token (tokens_at place rest) (begins.first_is place)
 
+-- a blank in front changes nothing
 pub begins-blank : {token : Token} {rest : List ℕ} → Begins token rest → Begins token (32 ∷ rest)
 begins-blank {token = token} {rest = rest} begins = record {
   first_is = λ place. rw (tokens_at-blank place 32 rest refl) (begins.first_is (suc place));
@@ -186,6 +183,7 @@ picks_nothing gives = reads_nothing (pick gives) None (λ place rest none. rw (n
 pub record Starts (follows : List ℕ → Type 0) (token : Token) (text : List ℕ) : Type 0 where
   pub begins : (rest : List ℕ) → follows rest → Begins token (text ++ rest)
 
+-- a text starts as its former part does
 pub starts_first : {follows ends : List ℕ → Type 0} {token : Token} {former : List ℕ}
     → (back : List ℕ) → Starts follows token former
     → ((rest : List ℕ) → ends rest → follows (back ++ rest))

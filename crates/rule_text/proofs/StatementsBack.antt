@@ -26,6 +26,7 @@ use Rattle.rule_text.proofs.BindsBack.{ends_sum}
 use Rattle.rule_text.proofs.ActsBack.{reads_act}
 use Rattle.rule_text.proofs.ConditionsBack.{EndsWhen, reads_when}
 
+-- the tokens behind a text and a blank
 behind_text : (place b : ℕ) (text rest : List ℕ) → is_blank b ≡ true
     → tokens_at (place + length text) (b ∷ rest)
     ≡ tokens_at (place + length (text ++ (b ∷ []))) rest
@@ -34,10 +35,10 @@ behind_text place b text rest blank =
     simp length-append (omega arith) in
     tokens_at-blank (place + length text) b rest blank ∙ ap (λ n. tokens_at n rest) far
 
--- a blank behind
+-- a blank behind is passed over
 before_blank : {X : Type 0} {follows : List ℕ → Type 0} {read : Reader X} {text : List ℕ} {x : X}
-    → (b : ℕ)
-    → ReadsBack follows read text x → is_blank b ≡ true → ((rest : List ℕ) → follows (b ∷ rest))
+    → (b : ℕ) → ReadsBack follows read text x → is_blank b ≡ true
+    → ((rest : List ℕ) → follows (b ∷ rest))
     → ReadsBack Anything read (text ++ (b ∷ [])) x
 before_blank {text = text} b h blank behind = record {
   reads = λ place rest end.
@@ -48,7 +49,7 @@ before_blank {text = text} b h blank behind = record {
       rw (append_assoc, ← (behind_text place b text rest blank)) one;
 }
 
--- a token in front of a blank
+-- a text and a blank have a token where the text has one
 takes_before_blank : {follows : List ℕ → Type 0} {text : List ℕ} (b : ℕ) → TakesToken follows text
     → is_blank b ≡ true → ((rest : List ℕ) → follows (b ∷ rest))
     → TakesToken Anything (text ++ (b ∷ []))
@@ -95,6 +96,7 @@ no_scope text named once each rest = record {
   no_each = not_word (begins-token (is_word text named) (32 ∷ rest) refl) (codes "each") each;
 }
 
+-- an act begins with a verb, which is no scope
 no_scope_act : (x : PlainAct) (rest : List ℕ) → EndsScope (act_text x ++ rest)
 unfolding act_text is_name
 no_scope_act (Make Receipt to sums) rest = no_scope (codes "receipt") refl refl refl _
@@ -111,6 +113,7 @@ act_ends : (x : Option PlainCond) (rest : List ℕ) → EndsWord ((when_text x +
 act_ends None rest = refl
 act_ends (Some x) rest = refl
 
+-- a condition ends at the semicolon
 when_ends : (rest : List ℕ) → EndsWhen (codes ";\n" ++ rest)
 unfolding mark_text
 when_ends rest =
@@ -135,6 +138,7 @@ scope_ends x more rest = rw append_assoc (no_scope_act x (more ++ rest))
 abbrev pub placed_at : ℕ → PlainStatement → PlainStatement
 placed_at place x = record { place = place; scope = x.scope; act = x.act; when = x.when }
 
+-- a statement is read back with the place that it is given
 pub reads_statement : (place : ℕ) (x : PlainStatement) → statement_fits is_small x ≡ true
     → ReadsBack Anything (statement place) (statement_text x) (placed_at place x)
 unfolding statement statement_text
@@ -148,6 +152,7 @@ reads_statement place x fits =
     (λ rest end. act_ends x.when rest))
     (λ rest end. scope_ends x.act (when_text x.when ++ codes ";\n") rest)
 
+-- a statement has a token
 pub takes_statement : (x : PlainStatement) → statement_fits is_small x ≡ true
     → TakesToken Anything (statement_text x)
 unfolding statement_text
@@ -181,6 +186,7 @@ scope_first place None x rest = act_first place x rest
 scope_first place (Some Once) x rest = first_place place 111 _ refl
 scope_first place (Some EachLine) x rest = first_place place 101 _ refl
 
+-- a statement begins at its first byte
 pub statement_first : (place : ℕ) (x : PlainStatement) (rest : List ℕ)
     → FirstAt place (statement_text x ++ rest)
 unfolding statement_text

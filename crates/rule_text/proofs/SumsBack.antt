@@ -69,6 +69,7 @@ part_token (Line spelling) = Word (Named (codes "line"))
 part_token (Total spelling) = Word (Named (codes "total"))
 part_token Cost = Word (Named (codes "cost"))
 
+-- a part begins with its token
 pub begins_part : (x : PlainPart) → part_fits is_small x ≡ true → (rest : List ℕ) → EndsPart rest
     → Begins (part_token x) (part_text x ++ rest)
 unfolding part_token part_text part_fits is_name
@@ -78,10 +79,9 @@ begins_part (Line spelling) fits rest end = begins_owner (codes "line") refl _
 begins_part (Total spelling) fits rest end = begins_owner (codes "total") refl _
 begins_part Cost fits rest end = begins-token (is_word (codes "cost") refl) rest end.no_word
 
--- a word that neither a word nor a point may follow
+-- where no word may follow, neither a word nor a point may
 pub before_part : {X : Type 0} {read : Reader X} {text : List ℕ} {x : X}
-    → ReadsBack EndsWord read text x
-    → ReadsBack EndsPart read text x
+    → ReadsBack EndsWord read text x → ReadsBack EndsPart read text x
 before_part h = reads_before h (λ rest (end : EndsPart rest). end.no_word)
 
 -- a part
@@ -127,6 +127,7 @@ not_sign sign (Line spelling) = refl
 not_sign sign (Total spelling) = refl
 not_sign sign Cost = refl
 
+-- a part behind its own sign
 reads_signed : (minus negative : Bool) (x : PlainPart) → part_fits is_small x ≡ true
     → ReadsBack EndsPart (term minus) (sign_text negative ++ part_text x)
     (record { minus = minus; negative = negative; part = x })
@@ -150,10 +151,11 @@ pub record EndsSum (rest : List ℕ) : Type 0 where
   pub no_plus : NotNext (is_mark_next PlusMark) rest
   pub no_minus : NotNext (is_mark_next MinusMark) rest
 
--- a part ends at a blank, and so does each of its kin
+-- a part ends at a blank
 pub ends_blank : (rest : List ℕ) → EndsPart (32 ∷ rest)
 ends_blank rest = record { no_word = refl; no_point = refl }
 
+-- no mark joins one more term
 no_joint : ReadsBack EndsSum joint [] None
 unfolding joint
 no_joint =
@@ -164,6 +166,7 @@ no_joint =
     (λ tokens. refl))
     (λ rest end. end)
 
+-- the mark that joins one more term, behind a blank
 reads_joint : (minus : Bool) → ReadsBack Anything joint (32 ∷ (cond minus 45 43 ∷ [])) (Some minus)
 unfolding joint mark_text
 reads_joint false = then_gives _ (behind_blank (takes_mark PlusMark)) (λ tokens. refl)
@@ -198,7 +201,7 @@ no_term : ReadsBack EndsSum next_term [] None
 unfolding next_term
 no_term = then_gives _ no_joint (λ tokens. refl)
 
--- one more term
+-- one more term, or none
 pub reads_more_terms : ReadsMore EndsPart EndsSum next_term (λ x. joint_text x.minus ++ term_text x)
     (λ x. part_fits is_small x.part)
 reads_more_terms = record {

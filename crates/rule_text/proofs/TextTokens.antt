@@ -1,8 +1,8 @@
 -- The tokens of what is left of a text.
-use Rattle.std.proofs.Common.{◌≡◌, ℕ, zero, suc, ◌+◌, ◌≤◌, Bool, true, false, List, [], ◌∷◌, ◌++◌, drop, length, slice_index, Option, Some, None, option_map, cond, if◌then◌else◌, nat_lt, ◌==◌, arith, refl, sym, ap, ◌∙◌, drop-drop, length-drop, inl, inr}
+use Rattle.std.proofs.Common.{◌≡◌, ℕ, zero, suc, ◌+◌, ◌≤◌, Bool, true, false, List, [], ◌∷◌, ◌++◌, drop, length, slice_index, Option, Some, None, option_map, cond, if◌then◌else◌, nat_lt, ◌==◌, arith, refl, sym, ap, ◌∙◌, drop-drop, length-drop}
 use Rattle.std.specs.List.{prefix_len}
 use Rattle.std.specs.Char.{is_ascii_alphabetic, is_ascii_digit}
-use Rattle.std.proofs.lemmas.Bool.{cases_Bool}
+use Rattle.std.proofs.lemmas.Bool.{cond_both}
 use Rattle.std.proofs.lemmas.List.{drop_at}
 use Rattle.std.proofs.lemmas.Bool.Decides.{nat_tests}
 use Rattle.reg_base.specs.Codes.{is_code_byte}
@@ -25,11 +25,6 @@ word_stands place (b ∷ bytes) h =
     let byte : is_word_byte b ≡ true = grind (arith, nat_tests) in
     rw byte (omega arith, refl)
 
-one_stands : (place : ℕ) (test : Bool) (one other : Lexeme) → Stands place one → Stands place other
-    → Stands place (cond test one other)
-one_stands place true one other h k = h
-one_stands place false one other h k = k
-
 number_stands : (place : ℕ) (bytes : List ℕ) → is_ascii_digit (slice_index bytes 0) ≡ true
     → Stands place (number_lexeme place bytes)
 unfolding number_lexeme
@@ -37,7 +32,8 @@ number_stands place [] h = absurd (cc)
 number_stands place (b ∷ bytes) h =
     let whole = prefix_len is_ascii_digit (b ∷ bytes) in
     let some : 1 ≤ prefix_len is_ascii_digit (b ∷ bytes) = rw h (omega arith) in
-    one_stands place (decimal_count (b ∷ bytes) whole == 0) _ _ (some, refl) (omega arith, refl)
+    cond_both (decimal_count (b ∷ bytes) whole == 0) _ _ (Stands place)
+    (λ _. (some, refl)) (λ _. (omega arith, refl))
 
 code_stands : (place : ℕ) (bytes : List ℕ) (found : Option (List ℕ))
     → closed_code bytes (prefix_len is_code_byte (drop 1 bytes)) ≡ found
@@ -60,17 +56,15 @@ sign_stands place bytes None None two one = rw (two, one) (omega arith, refl)
 mark_stands : (place : ℕ) (bytes : List ℕ) → Stands place (mark_lexeme place bytes)
 mark_stands place bytes = sign_stands place bytes _ _ refl refl
 
+-- so does any token
 pub lexeme_stands : (place : ℕ) (bytes : List ℕ) → Stands place (lexeme_of place bytes)
 unfolding lexeme_of
 lexeme_stands place bytes =
-    elim (cases_Bool (is_ascii_alphabetic (slice_index bytes 0))) [
-      | inl letter ↦ rw letter (word_stands place bytes letter)
-      | inr none ↦ rw none (elim (cases_Bool (is_ascii_digit (slice_index bytes 0))) [
-        | inl digit ↦ rw digit (number_stands place bytes digit)
-        | inr other ↦ rw other (one_stands place (slice_index bytes 0 == 34) _ _
-            (quoted_stands place bytes) (mark_stands place bytes))
-      ])
-    ]
+    let first = slice_index bytes 0 in
+    cond_both (is_ascii_alphabetic first) _ _ (Stands place) (λ letter. word_stands place bytes letter)
+    (λ _. cond_both (is_ascii_digit first) _ _ (Stands place) (λ digit. number_stands place bytes digit)
+    (λ _. cond_both (first == 34) _ _ (Stands place)
+    (λ _. quoted_stands place bytes) (λ _. mark_stands place bytes)))
 
 -- the tokens of bytes of which the first stands at the place, so many at the most
 unfoldable pub tokens_within : ℕ → ℕ → List ℕ → List Lexeme
@@ -108,6 +102,7 @@ tokens_within-pieces (suc most) text place =
       tokens_within-pieces most text (start + len),
     ) refl
 
+-- the tokens of a text are those from its first byte on
 pub tokens_at-text : (text : List ℕ) → tokens_of text ≡ tokens_at 0 text
 unfolding tokens_of tokens_at
 tokens_at-text text = tokens_within-pieces (length text) text 0

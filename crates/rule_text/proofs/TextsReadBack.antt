@@ -25,6 +25,7 @@ unfolding next_statement
 next_reads place x rest fits =
     rw (statement_first place x rest, (reads_statement place x fits).reads place rest tt) refl
 
+-- statements are read with the places of their first bytes, where at least as many may follow
 many_read : (xs : List PlainStatement) → list_all (statement_fits is_small) xs ≡ true
     → (most place : ℕ) → length xs ≤ most
     → many next_statement most (tokens_at place (statements_text xs)) ≡ Ok (placed place xs, [])
@@ -49,7 +50,7 @@ count (x ∷ xs) fit place =
     let more = count xs parts.1 (place + length (statement_text x)) in
     omega arith
 
--- what is written of plain statements is read as the same statements
+-- the same statements are read, each at the place that it has in the text
 pub texts-read-back : (ps : List PlainStatement) → list_all (statement_fits is_small) ps ≡ true
     → statements_of (statements_text ps) ≡ Ok (placed 0 ps)
 unfolding statements_of statements list_on ends

@@ -31,6 +31,7 @@ pub record IsToken (follows : List ℕ → Type 0) (text : List ℕ) (token : To
       → tokens_at place (text ++ rest)
       ≡ lexeme place (length text) token ∷ tokens_at (place + length text) rest
 
+-- a word, a mark, a code between quotes and a number are their tokens
 pub is_word : (text : List ℕ) → is_name text ≡ true → IsToken EndsWord text (Word (Named text))
 is_word text named = record { stands = λ place rest end. tokens_at-word place text rest named end }
 
@@ -53,18 +54,16 @@ is_number literal small = record {
       tokens_at-number place literal.digits literal.decimals rest within end;
 }
 
--- a token takes itself
+-- the text of a token has one
 pub takes-token : {follows : List ℕ → Type 0} {text : List ℕ} {token : Token}
-    → IsToken follows text token
-    → TakesToken follows text
+    → IsToken follows text token → TakesToken follows text
 takes-token {text = text} is = record {
   taken = λ place rest end. rw (is.stands place rest end) (omega arith);
 }
 
 -- a token begins what it stands in front of
 pub begins-token : {follows : List ℕ → Type 0} {text : List ℕ} {token : Token}
-    → IsToken follows text token
-    → (rest : List ℕ) → follows rest → Begins token (text ++ rest)
+    → IsToken follows text token → (rest : List ℕ) → follows rest → Begins token (text ++ rest)
 begins-token is rest end = record {
   first_is = λ place. rw (is.stands place rest end) refl;
 }
@@ -85,6 +84,7 @@ reads_token {text = text} is read x reads = record {
 same_bytes : (bytes : List ℕ) → bytes_eq bytes bytes ≡ true
 same_bytes bytes = (bytes_eq-Decides bytes bytes).1 refl
 
+-- a mark, a word, a name, a code and a number are read back
 pub reads_mark : (sign : Mark) → ReadsBack (EndsMark sign) (mark sign) (mark_text sign) tt
 unfolding mark
 reads_mark sign = reads_token (is_mark sign) (mark sign) tt
@@ -133,6 +133,7 @@ pub record NoCode (rest : List ℕ) : Type 0 where
   pub no_code : NoneNext code_of rest
   pub no_break : NoneNext break_of rest
 
+-- no code is read where none comes next
 pub no_code_if : ReadsBack NoCode code_if [] None
 unfolding code_if
 no_code_if = reads_nothing code_if None
@@ -148,8 +149,7 @@ pub not_mark : {token : Token} {rest : List ℕ} → Begins token rest → (sign
 not_mark begins sign other place = rw (front-begins begins sign_of place) other
 
 pub none_next : {X : Type 0} {token : Token} {rest : List ℕ} → Begins token rest
-    → (gives : Token → Option X)
-    → gives token ≡ None → NoneNext gives rest
+    → (gives : Token → Option X) → gives token ≡ None → NoneNext gives rest
 none_next begins gives none place = front-begins begins gives place ∙ none
 
 pub no_code_next : {token : Token} {rest : List ℕ} → Begins token rest → code_of token ≡ None
@@ -159,9 +159,9 @@ no_code_next begins code break = record {
   no_break = none_next begins break_of break;
 }
 
+-- what a token and a name start with
 pub starts-token : {follows : List ℕ → Type 0} {text : List ℕ} {token : Token}
-    → IsToken follows text token
-    → Starts follows token text
+    → IsToken follows text token → Starts follows token text
 starts-token is = record { begins = begins-token is }
 
 pub starts_name : (spelling : Spelling) → is_named spelling ≡ true
