@@ -29,7 +29,7 @@ use Rattle.rule_lang.proofs.StepLemmas.{step-IfOk, any-IfOk, self-IfOk, some-IfO
 use Rattle.rule_lang.proofs.ResolvedLemmas.{sum_of-IfOk, code_of-IfOk}
 
 -- a field that is found brings its scale
-found-scale : (fields : List Field) (spelling : Spelling) (found : FieldAt)
+pub found-scale : (fields : List Field) (spelling : Spelling) (found : FieldAt)
     → field_of fields spelling ≡ Ok found → scale_of_field fields spelling ≡ found.scale
 unfolding scale_of_field
 found-scale fields spelling found is = rw is refl

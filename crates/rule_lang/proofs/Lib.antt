@@ -5,6 +5,10 @@ mod ActLemmas
 mod ConditionLemmas
 mod SequenceLemmas
 mod LawLemmas
+mod NameLemmas
+mod ZipLemmas
+mod CodeLemmas
+mod ScaledLemmas
 pub mod RuleLemmas
 pub mod PrintLemmas
 mod WorkedRows
