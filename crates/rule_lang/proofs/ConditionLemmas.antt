@@ -115,33 +115,40 @@ no_sum : (kind : Kind) (round : Round) (terms : List PlainTerm)
 unfolding sum_of
 no_sum kind round terms never = step-IfOk _ _ (each (term_of kind round None) terms) (λ _. ⊥) never (λ ts none. none)
 
+-- terms that bring no scale, though one is asked for, are no sums
+pub no_sums : (kind : Kind) (round : Round) (left right : List PlainTerm) → asked_scale kind round left right ≡ None
+    → IfOk (both (sum_of kind round None left) (sum_of kind round None right)) (λ _. ⊥)
+unfolding asked_scale
+no_sums kind round left right none = by_left (unscaled kind round (first_scale kind round (Some 6) right) left none)
+  where
+    differ : ◌≡◌ {A = Option ℕ} (Some 6) None → ⊥
+    differ e = cc
+
+    by_right : (◌≡◌ {A = Option ℕ} (Some 6) None) ⊎ IfOk (each (term_of kind round None) right) (λ _. ⊥)
+        → IfOk (both (sum_of kind round None left) (sum_of kind round None right)) (λ _. ⊥)
+    by_right (inl e) = absurd (differ e)
+    by_right (inr never) = IfOk-follows (both (sum_of kind round None left) (sum_of kind round None right)) (λ p. ⊤ × ⊥) (λ _. ⊥) (λ p h. h.1)
+        (both-IfOk (sum_of kind round None left) (sum_of kind round None right) (λ _. ⊤) (λ _. ⊥) (any-IfOk (sum_of kind round None left)) (no_sum kind round right never))
+
+    by_left : (first_scale kind round (Some 6) right ≡ None) ⊎ IfOk (each (term_of kind round None) left) (λ _. ⊥)
+        → IfOk (both (sum_of kind round None left) (sum_of kind round None right)) (λ _. ⊥)
+    by_left (inl is) = by_right (unscaled kind round (Some 6) right is)
+    by_left (inr never) = IfOk-follows (both (sum_of kind round None left) (sum_of kind round None right)) (λ p. ⊥ × ⊤) (λ _. ⊥) (λ p h. h.0)
+        (both-IfOk (sum_of kind round None left) (sum_of kind round None right) (λ _. ⊥) (λ _. ⊤) (no_sum kind round left never) (any-IfOk (sum_of kind round None right)))
+
 -- both sums have a scale
 abbrev HaveOneScale : Kind → Round → Sum × Sum → Type 0
 HaveOneScale kind round p = (scale : ℕ) × (is_sum kind round.each scale p.0 ≡ true) × (is_sum kind round.each scale p.1 ≡ true)
 
 one_scale : (kind : Kind) (round : Round) (left right : List PlainTerm) (asked : Option ℕ) → asked_scale kind round left right ≡ asked
     → IfOk (both (sum_of kind round asked left) (sum_of kind round asked right)) (HaveOneScale kind round)
-unfolding asked_scale
 one_scale kind round left right (Some scale) is =
     let sums : Checked (Sum × Sum) = both (sum_of kind round (Some scale) left) (sum_of kind round (Some scale) right) in
     IfOk-follows sums (λ p. (is_sum kind round.each scale p.0 ≡ true) × (is_sum kind round.each scale p.1 ≡ true)) (HaveOneScale kind round) (λ p h. (scale, h.0, h.1))
     (both-IfOk (sum_of kind round (Some scale) left) (sum_of kind round (Some scale) right) _ _ (sum_of-IfOk kind round scale left) (sum_of-IfOk kind round scale right))
-one_scale kind round left right None is = by_left (unscaled kind round (first_scale kind round (Some 6) right) left is)
-  where
-    differ : ◌≡◌ {A = Option ℕ} (Some 6) None → ⊥
-    differ e = cc
-
-    by_right : (◌≡◌ {A = Option ℕ} (Some 6) None) ⊎ IfOk (each (term_of kind round None) right) (λ _. ⊥)
-        → IfOk (both (sum_of kind round None left) (sum_of kind round None right)) (HaveOneScale kind round)
-    by_right (inl e) = absurd (differ e)
-    by_right (inr never) = IfOk-follows (both (sum_of kind round None left) (sum_of kind round None right)) (λ p. ⊤ × ⊥) (HaveOneScale kind round) (λ p h. absurd h.1)
-        (both-IfOk (sum_of kind round None left) (sum_of kind round None right) (λ _. ⊤) (λ _. ⊥) (any-IfOk (sum_of kind round None left)) (no_sum kind round right never))
-
-    by_left : (first_scale kind round (Some 6) right ≡ None) ⊎ IfOk (each (term_of kind round None) left) (λ _. ⊥)
-        → IfOk (both (sum_of kind round None left) (sum_of kind round None right)) (HaveOneScale kind round)
-    by_left (inl none) = by_right (unscaled kind round (Some 6) right none)
-    by_left (inr never) = IfOk-follows (both (sum_of kind round None left) (sum_of kind round None right)) (λ p. ⊥ × ⊤) (HaveOneScale kind round) (λ p h. absurd h.0)
-        (both-IfOk (sum_of kind round None left) (sum_of kind round None right) (λ _. ⊥) (λ _. ⊤) (no_sum kind round left never) (any-IfOk (sum_of kind round None right)))
+one_scale kind round left right None is =
+    IfOk-follows (both (sum_of kind round None left) (sum_of kind round None right)) (λ _. ⊥) (HaveOneScale kind round) (λ p never. absurd never)
+    (no_sums kind round left right is)
 
 sums_of-IfOk : (kind : Kind) (round : Round) (left : List PlainTerm) (test : Test) (right : List PlainTerm)
     → IfOk (sums_of kind round left test right) (λ cond. IsCond kind round.each (Some cond))

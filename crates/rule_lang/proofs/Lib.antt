@@ -9,6 +9,7 @@ mod NameLemmas
 mod ZipLemmas
 mod CodeLemmas
 mod ScaledLemmas
+mod WrittenConditions
 pub mod RuleLemmas
 pub mod PrintLemmas
 mod WorkedRows
