@@ -10,6 +10,8 @@ mod ZipLemmas
 mod CodeLemmas
 mod ScaledLemmas
 mod WrittenConditions
+mod WrittenAmounts
+mod WrittenActs
 pub mod RuleLemmas
 pub mod PrintLemmas
 mod WorkedRows

@@ -1,0 +1,146 @@
+-- Acts are written so that they read as the same.
+use Rattle.std.proofs.Common.{◌≡◌, ℕ, Bool, true, false, not, ◌&&◌, List, [], ◌∷◌, ◌++◌, map, codes, Option, Some, None, Result, Ok, Err, IfOk, refl, ap, ap₂, sym, ◌∙◌, slice_get}
+use Rattle.std.proofs.lemmas.Bool.{and_from, and_parts}
+use Rattle.std.specs.Bool.{⊤}
+use Rattle.std.specs.List.{AllZip, list_all}
+use Rattle.reg_base.specs.Codes.{is_code}
+use Rattle.reg_base.specs.Results.{◌>>=◌, unless}
+use Rattle.cfg_model.specs.declared.config.Config.{Config}
+use Rattle.cfg_model.specs.declared.kind.Kind.{Kind}
+use Rattle.cfg_model.specs.declared.ledger.Chart.{Chart}
+use Rattle.cfg_model.specs.declared.register.Register.{Register}
+use Rattle.cfg_model.specs.declared.register.Resource.{Resource}
+use Rattle.rule_text.specs.declared.plain.PlainAct.{PlainAct}
+use Rattle.rule_text.specs.declared.plain.PlainAct.TheVariants.{Make as PlainMake, WriteOff as PlainWriteOff, Require as PlainRequire, Control as PlainControl, Entry as PlainEntry}
+use Rattle.rule_text.specs.declared.plain.PlainAmount.{PlainAmount}
+use Rattle.rule_text.specs.declared.plain.PlainBind.{PlainBind}
+use Rattle.rule_text.specs.declared.plain.PlainSide.{PlainSide}
+use Rattle.rule_text.specs.declared.plain.PlainSides.{PlainSides}
+use Rattle.rule_text.specs.declared.plain.PlainTerm.{PlainTerm}
+use Rattle.rule_text.specs.declared.plain.Scope.{Scope}
+use Rattle.rule_text.specs.declared.plain.Scope.TheVariants.{Once, EachLine}
+use Rattle.rule_text.specs.declared.plain.Target.{Target}
+use Rattle.rule_text.specs.declared.plain.Verb.{Verb}
+use Rattle.rule_text.specs.declared.plain.Verb.TheVariants.{Receipt, Expense, Turn}
+use Rattle.rule_text.specs.declared.token.Spelling.{Spelling}
+use Rattle.rule_text.proofs.PlainTexts.{spelling_text, binds_text as plain_binds_text, amounts_text as plain_amounts_text, verb_text as plain_verb_text, order_text as plain_order_text, act_text as plain_act_text, scope_text as plain_scope_text, is_small, is_named, bind_fits, target_fits, amount_fits, act_fits}
+use Rattle.rule_text.proofs.ReadTests.{spelling_read, bind_read, target_read, amount_read, amounts_read, terms_read, act_read}
+use Rattle.rule_lang.specs.Acts.{act_of}
+use Rattle.rule_lang.specs.Binds.{bind_of, amount_of, all_bound, none_twice}
+use Rattle.rule_lang.specs.Fields.{place_of}
+use Rattle.rule_lang.specs.Least.{Checked, both, beside, each}
+use Rattle.rule_lang.specs.Makes.{suits, make_fits, make_act, made, make_of}
+use Rattle.rule_lang.specs.Rules.{is_control}
+use Rattle.rule_lang.specs.RuleTexts.{binds_text, amounts_text, verb_text, order_text, make_text, act_text, scope_text}
+use Rattle.rule_lang.specs.TermTexts.{text_if, name_at}
+use Rattle.rule_lang.specs.declared.fault.RuleWhy.TheVariants.{UnknownName, Unbound, TwiceBound, WrongRegister}
+use Rattle.rule_lang.specs.declared.statement.Act.{Act}
+use Rattle.rule_lang.specs.declared.statement.Act.TheVariants.{Make, WriteOff, Require, Control, Entry}
+use Rattle.rule_lang.specs.declared.statement.Bind.{Bind}
+use Rattle.rule_lang.specs.declared.statement.Sum.{Sum}
+use Rattle.rule_lang.specs.declared.terms.Round.{Round}
+use Rattle.rule_lang.proofs.CodeLemmas.{AreBinds, binds-written}
+use Rattle.rule_lang.proofs.NameLemmas.{IfOk-self, IsWritten, place_of-written}
+use Rattle.rule_lang.proofs.StepLemmas.{step-IfOk, some-IfOk, self-IfOk, both-IfOk, beside-IfOk, IfOk-follows}
+use Rattle.rule_lang.proofs.WrittenAmounts.{scaled_amount, AreAmounts, amounts-written}
+use Rattle.rule_lang.proofs.ZipLemmas.{none_twice-map}
+
+-- the scope that is written: none for a control
+abbrev pub written_scope : Bool → Bool → Option Scope
+written_scope true each = None
+written_scope false true = Some EachLine
+written_scope false false = Some Once
+
+-- an act is written so that it reads as the same
+pub record IsWrittenAct (config : Config) (kind : Kind) (round : Round) (control : Bool) (act : Act) : Type 0 where
+  pub written : PlainAct
+  pub text : act_text config kind act ≡ plain_act_text written
+  pub same : act_of config kind round written ≡ Ok act
+  pub fits : act_fits is_small written ≡ true
+  pub is : is_control written ≡ control
+  pub scope : (each : Bool) → scope_text each act ≡ plain_scope_text (written_scope control each)
+
+-- what stands at the place has the name that was read
+pub named : {X : Type 0} (name_of : X → List ℕ) (xs : List X) (spelling : Spelling) (place : ℕ) (x : X)
+    → IsWritten name_of xs spelling place → slice_get xs place ≡ Some x → name_of x ≡ spelling_text spelling
+named name_of xs spelling place x written at = sym (ap (text_if name_of) at) ∙ written.name
+
+-- a check that is passed
+pub passed : (check : Checked (Unit {0})) → IfOk check (λ _. check ≡ Ok tt)
+passed check = IfOk-follows check (λ u. check ≡ Ok u) (λ _. check ≡ Ok tt) (λ u is. is) (self-IfOk check)
+
+-- what is accepted beside a check that is passed
+pub beside-Ok : {X Y : Type 0} (check : Checked (Unit {0})) (a : Checked X) (b : Checked Y) (x : X) (y : Y)
+    → check ≡ Ok tt → a ≡ Ok x → b ≡ Ok y → beside check (both a b) ≡ Ok (x, y)
+unfolding beside both
+beside-Ok check a b x y c p q = rw (c, p, q) refl
+
+verb-same : (verb : Verb) → verb_text verb ≡ plain_verb_text verb
+verb-same Receipt = refl
+verb-same Expense = refl
+verb-same Turn = refl
+
+make-scope : (verb : Verb) (place : ℕ) (binds : List Bind) (sums : List (ℕ × Sum)) (each : Bool)
+    → scope_text each (Make verb place binds sums) ≡ plain_scope_text (written_scope false each)
+unfolding scope_text
+make-scope verb place binds sums true = refl
+make-scope verb place binds sums false = refl
+
+make_fits-scaled : (verb : Verb) (register : Register) (binds : List PlainBind) (sums : List PlainAmount)
+    → make_fits verb register binds (map (scaled_amount register) sums) ≡ make_fits verb register binds sums
+unfolding make_fits
+make_fits-scaled verb register binds sums =
+    rw (none_twice-map (scaled_amount register) (λ (a : PlainAmount). a.resource) sums (λ a. refl)) refl
+
+-- what was found for a record
+record IsMade (kind : Kind) (round : Round) (register : Register) (verb : Verb) (binds : List PlainBind) (sums : List PlainAmount) (parts : List Bind × List (ℕ × Sum)) : Type 0 where
+  fit : make_fits verb register binds sums ≡ Ok tt
+  bound : each (bind_of kind round register) binds ≡ Ok parts.0
+  are_binds : AreBinds kind register binds parts.0
+  are_sums : AreAmounts kind round register (map (scaled_amount register) sums) parts.1
+
+made-text : (config : Config) (kind : Kind) (round : Round) (place : ℕ) (register : Register) (verb : Verb) (target : Target) (sums : List PlainAmount) (parts : List Bind × List (ℕ × Sum))
+    → IsWritten (λ (r : Register). r.name) config.registers target.register place → slice_get config.registers place ≡ Some register
+    → IsMade kind round register verb target.binds sums parts
+    → act_text config kind (Make verb place parts.0 parts.1) ≡ plain_act_text (PlainMake verb target (map (scaled_amount register) sums))
+unfolding act_text make_text plain_act_text
+made-text config kind round place register verb target sums parts written at is =
+    rw (at, verb-same verb, is.are_binds.text, is.are_sums.text, named (λ (r : Register). r.name) config.registers target.register place register written at) refl
+
+made-same : (config : Config) (kind : Kind) (round : Round) (place : ℕ) (register : Register) (verb : Verb) (target : Target) (sums : List PlainAmount) (parts : List Bind × List (ℕ × Sum))
+    → place_of (λ (r : Register). r.name) config.registers target.register ≡ Ok place → slice_get config.registers place ≡ Some register
+    → IsMade kind round register verb target.binds sums parts
+    → act_of config kind round (PlainMake verb target (map (scaled_amount register) sums)) ≡ Ok (Make verb place parts.0 parts.1)
+unfolding act_of make_of made make_act
+made-same config kind round place register verb target sums parts found at is =
+    rw (found, at, make_fits-scaled verb register target.binds sums,
+    beside-Ok (make_fits verb register target.binds sums) (each (bind_of kind round register) target.binds) (each (amount_of kind round register) (map (scaled_amount register) sums)) parts.0 parts.1
+    is.fit is.bound is.are_sums.same) refl
+
+make-written : (config : Config) (kind : Kind) (round : Round) (verb : Verb) (target : Target) (sums : List PlainAmount)
+    → target_read target ≡ true → amounts_read sums ≡ true
+    → IfOk (make_of config kind round verb target sums) (IsWrittenAct config kind round false)
+unfolding make_of made make_act act_fits
+make-written config kind round verb target sums target_is sums_are =
+    let reads = and_parts (spelling_read target.register) (list_all bind_read target.binds) target_is in
+    let find : Checked ℕ = place_of (λ (r : Register). r.name) config.registers target.register in
+    step-IfOk _ _ find _
+    (IfOk-self find (IsWritten (λ (r : Register). r.name) config.registers target.register) (place_of-written (λ (r : Register). r.name) config.registers target.register reads.0))
+    (λ place h. some-IfOk _ _ (slice_get config.registers place) UnknownName
+    (λ r at.
+    let bs : Checked (List Bind) = each (bind_of kind round r) target.binds in
+    let ss : Checked (List (ℕ × Sum)) = each (amount_of kind round r) sums in
+    let fit : Checked (Unit {0}) = make_fits verb r target.binds sums in
+    step-IfOk _ _ (beside fit (both bs ss)) _
+    (beside-IfOk fit (both bs ss) (fit ≡ Ok tt) _ (passed fit)
+    (both-IfOk bs ss (λ b. (bs ≡ Ok b) × AreBinds kind r target.binds b) (AreAmounts kind round r (map (scaled_amount r) sums))
+    (IfOk-self bs (AreBinds kind r target.binds) (binds-written kind round r target.binds reads.1)) (amounts-written kind round r sums sums_are)))
+    (λ p g.
+    let is : IsMade kind round r verb target.binds sums p = record { fit = g.0; bound = g.1.0.0; are_binds = g.1.0.1; are_sums = g.1.1 } in
+    record {
+      written = PlainMake verb target (map (scaled_amount r) sums);
+      text = made-text config kind round place r verb target sums p h.1 at is;
+      same = made-same config kind round place r verb target sums p h.0 at is;
+      fits = and_from _ _ (and_from _ _ h.1.named is.are_binds.fits) is.are_sums.fits;
+      is = refl;
+      scope = make-scope verb place p.0 p.1 })))
