@@ -11,7 +11,10 @@ mod CodeLemmas
 mod ScaledLemmas
 mod WrittenConditions
 mod WrittenAmounts
-mod WrittenActs
+mod WrittenMakes
+mod WrittenWriteOffs
+mod WrittenRequirements
+mod WrittenEntries
 pub mod RuleLemmas
 pub mod PrintLemmas
 mod WorkedRows

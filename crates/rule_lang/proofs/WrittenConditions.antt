@@ -216,7 +216,8 @@ sums-text kind round left test right sums are =
     rw (are.first.brings _ ∙ ap (λ other. first_scale kind round other left) (are.second.brings (Some 6)) ∙ are.asked)
     (ap₂ ◌++◌ are.first.text (ap₂ (λ a b. codes " " ++ (a ++ (codes " " ++ b))) (test-same test) are.second.text))
 
-both-Ok : {X Y : Type 0} (a : Checked X) (b : Checked Y) (x : X) (y : Y) → a ≡ Ok x → b ≡ Ok y → both a b ≡ Ok (x, y)
+-- two that are each accepted are accepted together
+pub both-Ok : {X Y : Type 0} (a : Checked X) (b : Checked Y) (x : X) (y : Y) → a ≡ Ok x → b ≡ Ok y → both a b ≡ Ok (x, y)
 unfolding both
 both-Ok a b x y p q = rw (p, q) refl
 

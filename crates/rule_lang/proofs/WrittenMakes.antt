@@ -1,4 +1,4 @@
--- Acts are written so that they read as the same.
+-- Receipts, expenses and turns are written so that they read as the same.
 use Rattle.std.proofs.Common.{◌≡◌, ℕ, Bool, true, false, not, ◌&&◌, List, [], ◌∷◌, ◌++◌, map, codes, Option, Some, None, Result, Ok, Err, IfOk, refl, ap, ap₂, sym, ◌∙◌, slice_get}
 use Rattle.std.proofs.lemmas.Bool.{and_from, and_parts}
 use Rattle.std.specs.Bool.{⊤}
@@ -117,7 +117,7 @@ made-same config kind round place register verb target sums parts found at is =
     beside-Ok (make_fits verb register target.binds sums) (each (bind_of kind round register) target.binds) (each (amount_of kind round register) (map (scaled_amount register) sums)) parts.0 parts.1
     is.fit is.bound is.are_sums.same) refl
 
-make-written : (config : Config) (kind : Kind) (round : Round) (verb : Verb) (target : Target) (sums : List PlainAmount)
+pub make-written : (config : Config) (kind : Kind) (round : Round) (verb : Verb) (target : Target) (sums : List PlainAmount)
     → target_read target ≡ true → amounts_read sums ≡ true
     → IfOk (make_of config kind round verb target sums) (IsWrittenAct config kind round false)
 unfolding make_of made make_act act_fits
