@@ -47,7 +47,7 @@ statement_in-IfOk config kind round before plain =
     (λ p h. step-IfOk _ _ (last_fits config kind before p.0) _ (last_fits-IfOk config kind before p.0)
     (λ u keeps. (record { act = h.1.0; when = h.1.1 }, keeps_sequences-true config kind p.0 keeps)))
 
-fault_at-IfOk : {X : Type 0} (kind : Kind) (place : ℕ) (checked : Checked X) (P : X → Type 0) → IfOk checked P → IfOk (fault_at kind place checked) P
+pub fault_at-IfOk : {X : Type 0} (kind : Kind) (place : ℕ) (checked : Checked X) (P : X → Type 0) → IfOk checked P → IfOk (fault_at kind place checked) P
 fault_at-IfOk kind place (Ok x) P p = p
 fault_at-IfOk kind place (Err why) P p = tt
 

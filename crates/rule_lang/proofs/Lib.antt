@@ -15,6 +15,7 @@ mod WrittenMakes
 mod WrittenWriteOffs
 mod WrittenRequirements
 mod WrittenEntries
+mod WrittenRules
 pub mod RuleLemmas
 pub mod PrintLemmas
 mod WorkedRows
