@@ -16,6 +16,7 @@ mod WrittenWriteOffs
 mod WrittenRequirements
 mod WrittenEntries
 mod WrittenRules
+mod OtherTexts
 pub mod RuleLemmas
 pub mod PrintLemmas
 mod WorkedRows

@@ -16,3 +16,4 @@ pub mod TermTexts
 pub mod RuleTexts
 pub mod Resolved
 pub mod SequenceLaws
+pub mod Printed
