@@ -17,6 +17,7 @@ mod WrittenRequirements
 mod WrittenEntries
 mod WrittenRules
 mod OtherTexts
+mod OtherActs
 pub mod RuleLemmas
 pub mod PrintLemmas
 mod WorkedRows
