@@ -18,6 +18,7 @@ mod WrittenEntries
 mod WrittenRules
 mod OtherTexts
 mod OtherActs
+mod ReadBackLemmas
 pub mod RuleLemmas
 pub mod PrintLemmas
 mod WorkedRows

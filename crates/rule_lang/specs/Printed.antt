@@ -1,8 +1,8 @@
 -- A configuration in which each document type has the canonical text of its statements.
-use Rattle.std.specs.Prelude.{ℕ, List, [], ◌∷◌, None}
+use Rattle.std.specs.Prelude.{ℕ, ◌+◌, List, [], ◌∷◌}
 use Rattle.cfg_model.specs.declared.config.Config.{Config}
 use Rattle.cfg_model.specs.declared.kind.Kind.{Kind}
-use Rattle.rule_lang.specs.RuleTexts.{statements_text}
+use Rattle.rule_lang.specs.RuleTexts.{rules_text}
 use Rattle.rule_lang.specs.declared.statement.Statement.{Statement}
 
 -- the type with this text of rules in the place of its own
@@ -15,14 +15,13 @@ with_kinds config kinds = record {
   registers = config.registers; ledgers = config.ledgers; kinds = kinds;
   sequences = config.sequences; clerks = config.clerks }
 
--- types, each with the canonical text of its statements
-abbrev pub printed_kinds : Config → List Kind → List (List Statement) → List Kind
-printed_kinds config [] rules = []
-printed_kinds config (kind ∷ kinds) [] = []
-printed_kinds config (kind ∷ kinds) (statements ∷ rules) =
-    with_rules kind (statements_text config kind (record { once = None; each = None }) statements)
-    ∷ printed_kinds config kinds rules
+-- types from this place on, each with the canonical text of its statements in the place of its own
+abbrev pub printed_from : Config → ℕ → List Kind → List (List Statement) → List Kind
+printed_from config place [] rules = []
+printed_from config place (kind ∷ kinds) [] = kind ∷ kinds
+printed_from config place (kind ∷ kinds) (statements ∷ rules) =
+    with_rules kind (rules_text config place statements) ∷ printed_from config (place + 1) kinds rules
 
--- the configuration, with the canonical texts of these rules
+-- the configuration with the canonical texts of these rules in the place of its own
 abbrev pub printed : Config → List (List Statement) → Config
-printed config rules = with_kinds config (printed_kinds config config.kinds rules)
+printed config rules = with_kinds config (printed_from config 0 config.kinds rules)

@@ -35,7 +35,7 @@ mod terms;
 mod write_offs;
 
 pub use fault::{RuleFault, RuleWhy};
-pub use laws::{places_are_resolved, sequences_are_kept};
+pub use laws::{places_are_resolved, rules_read_back, sequences_are_kept};
 pub use rule_text::{Test, Verb};
 pub use rules::{Rules, STATEMENT_LIMIT};
 pub use statement::{Act, Bind, BindTo, CodeTerm, Cond, Part, Place, Statement, Sum, Term};
