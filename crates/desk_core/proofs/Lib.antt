@@ -5,3 +5,5 @@ pub mod DeskLemmas
 pub mod LineLemmas
 pub mod LawLemmas
 pub mod RowLemmas
+pub mod SetLemmas
+pub mod RaiseLemmas

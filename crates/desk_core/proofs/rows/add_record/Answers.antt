@@ -3,7 +3,8 @@ use Rattle.std.specs.Cmp.Lexicographic.{slice_cmp}
 use Rattle.reg_base.specs.contracts.value.ValueOrd.TheImpl.{ghosts}
 use Rattle.reg_base.specs.Records.{amount_at}
 use Rattle.desk_core.specs.Rows.{booked, rows_of, sum_at}
-use Rattle.desk_core.proofs.RowLemmas.{AddsUp-raise, sums_of, sums_of-lookup, found-length, found-within, derived-values_cmp, raised-whole}
+use Rattle.desk_core.proofs.RowLemmas.{AddsUp-raise, sums_of, sums_of-lookup, found-length, found-within, derived-values_cmp}
+use Rattle.desk_core.proofs.RaiseLemmas.{raised-whole}
 use Rattle.desk_core.proofs.rows.add_record.Goals as goal
 
 pub raise-requires : goal.raise-requires

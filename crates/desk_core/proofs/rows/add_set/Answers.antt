@@ -6,7 +6,7 @@ use Rattle.reg_base.specs.declared.records.SumRow.{SumRow}
 use Rattle.reg_base.specs.Cuts.{inside}
 use Rattle.reg_base.specs.Records.{point_of}
 use Rattle.desk_core.specs.Rows.{booked, rows_of, AddsUp}
-use Rattle.desk_core.proofs.RowLemmas.{AddsUp-taken, AddsUp-left, set-few}
+use Rattle.desk_core.proofs.SetLemmas.{AddsUp-taken, AddsUp-left, set-few}
 use Rattle.desk_core.proofs.rows.add_set.Goals as goal
 use Rattle.desk_core.proofs.rows.add_set.Goals.{then-inside+in_ok-add_record, else-inside}
 

@@ -6,7 +6,8 @@ use Rattle.desk_core.specs.Rows.{rows_of}
 use Rattle.std.specs.List.{filter, flat_map}
 use Rattle.reg_base.specs.Cuts.{inside}
 use Rattle.reg_base.specs.Records.{booked_by, point_of}
-use Rattle.desk_core.proofs.RowLemmas.{documents-few, shown-sum_rows}
+use Rattle.desk_core.proofs.RowLemmas.{shown-sum_rows}
+use Rattle.desk_core.proofs.SetLemmas.{documents-few}
 use Rattle.desk_core.proofs.rows.balance_rows.Goals as goal
 
 pub add_document-requires-clause-few : goal.add_document-requires-clause-few

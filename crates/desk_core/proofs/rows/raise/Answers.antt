@@ -4,7 +4,7 @@ use Rattle.std.proofs.lemmas.Int.{to_z-of_z}
 use Rattle.std.specs.Prelude.{slice_set}
 use Rattle.reg_base.specs.Records.{amount_at}
 use Rattle.desk_core.specs.Rows.{sum_at}
-use Rattle.desk_core.proofs.RowLemmas.{raise-at, raise-step}
+use Rattle.desk_core.proofs.RaiseLemmas.{raise-at, raise-step}
 use Rattle.desk_core.proofs.rows.raise.Goals as goal
 
 pub loop-j-preserved : goal.loop-j-preserved
