@@ -1,6 +1,7 @@
 -- Sums with all the decimals of their scale: they are written so, and read as the same.
 use Rattle.std.proofs.Common.{◌≡◌, ℕ, ◌-◌, ◌*◌, ◌^◌, Bool, true, false, not, ◌&&◌, cond, nat_le, List, [], ◌∷◌, ◌++◌, map, codes, Option, Some, None, Result, Ok, Err, IfOk, ℤ, pos, refl, ap, ap₂, sym, ◌∙◌, arith}
 use Rattle.std.proofs.lemmas.Bool.{and_from, and_parts, le-leb}
+use Rattle.std.proofs.lemmas.Option.{cond_some}
 use Rattle.std.specs.List.{AllZip, list_all}
 use Rattle.reg_base.specs.Numbers.{largest_units, sum_text}
 use Rattle.reg_base.specs.Results.{◌>>=◌}
@@ -53,35 +54,25 @@ record HasUnits (scale : ℕ) (literal : Literal) (units : ℤ) : Type 0 where
   is : units ≡ pos (scaled_literal scale literal).digits
   fits : is_small (scaled_literal scale literal) ≡ true
 
-chosen : (test : Bool) (given units : ℤ) → cond test (Some given) None ≡ Some units → (test ≡ true) × (units ≡ given)
-chosen true given units e = (refl, cc)
-chosen false given units e = absurd (cc)
-
 units_at-has : (literal : Literal) (scale : ℕ) (units : ℤ) → units_at literal scale ≡ Some units → HasUnits scale literal units
 unfolding units_at
 units_at-has literal scale units e =
     let digits = literal.digits * 10 ^ (scale - literal.decimals) in
-    let h = chosen (nat_le literal.decimals scale && nat_le digits largest_units) (pos digits) units e in
-    record { is = h.1; fits = (and_parts (nat_le literal.decimals scale) (nat_le digits largest_units) h.0).1 }
-
-none_left : (scale : ℕ) → scale - scale ≡ 0
-none_left scale = omega arith
-
-times_one : (n : ℕ) → n * 1 ≡ n
-times_one n = omega arith
-
-within_self : (scale : ℕ) → nat_le scale scale ≡ true
-within_self scale = le-leb scale scale (omega arith)
+    let h = cond_some (nat_le literal.decimals scale && nat_le digits largest_units) (pos digits) units e in
+    record { is = sym h.1; fits = (and_parts (nat_le literal.decimals scale) (nat_le digits largest_units) h.0).1 }
 
 whole : (n scale : ℕ) → n * 10 ^ (scale - scale) ≡ n
-whole n scale = rw (none_left scale) (times_one n)
+whole n scale =
+    let none_left : scale - scale ≡ 0 = omega arith in
+    let times_one : n * 1 ≡ n = omega arith in
+    rw none_left times_one
 
 units_at-scaled : (scale : ℕ) (literal : Literal) (units : ℤ) → HasUnits scale literal units
     → units_at (scaled_literal scale literal) scale ≡ Some units
 unfolding units_at
 units_at-scaled scale literal units h =
     let digits = literal.digits * 10 ^ (scale - literal.decimals) in
-    rw (whole digits scale, within_self scale, h.fits) (ap Some (sym h.is))
+    rw (whole digits scale, le-leb scale scale (omega arith), h.fits) (ap Some (sym h.is))
 
 -- the scale that a part brings, as it is found by name
 abbrev pub brought : Option ℕ → Option (Option ℕ)

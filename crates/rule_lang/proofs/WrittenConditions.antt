@@ -1,6 +1,7 @@
 -- Conditions are written so that they read as the same.
 use Rattle.std.proofs.Common.{◌≡◌, ℕ, Bool, true, false, not, ◌&&◌, cond, List, [], ◌∷◌, ◌++◌, map, codes, Option, Some, None, option_and_then, Result, Ok, Err, IfOk, refl, ap, ap₂, subst, sym, ◌∙◌, append-nil}
 use Rattle.std.proofs.lemmas.Bool.{and_from, and_parts}
+use Rattle.std.proofs.lemmas.Option.{cond_some}
 use Rattle.std.specs.List.{list_all}
 use Rattle.reg_base.specs.Results.{◌>>=◌}
 use Rattle.cfg_model.specs.declared.kind.Kind.{Kind}
@@ -105,8 +106,8 @@ line-lone minus spelling = record {
   read = λ r. (and_parts (spelling_read spelling) true (and_parts (not minus) (spelling_read spelling && true) r).1).0;
   fits = λ r f. and_from _ _ (and_parts (not minus) (spelling_read spelling && true) r).0 (and_from _ _ f refl) }
 
-same_code : (P : PlainCode → Type 0) (a b : PlainCode) → P a → ◌≡◌ {A = Option PlainCode} (Some a) (Some b) → P b
-same_code P a b p e = subst P (cc) p
+value-same : {X : Type 0} (a b : X) → ◌≡◌ {A = Option X} (Some a) (Some b) → a ≡ b
+value-same a b e = cc
 
 term-lone : (minus negative : Bool) (part : PlainPart) (code : PlainCode)
     → lone_field (record { minus = minus; negative = negative; part = part } ∷ []) ≡ Some code
@@ -114,8 +115,10 @@ term-lone : (minus negative : Bool) (part : PlainPart) (code : PlainCode)
 unfolding lone_field
 term-lone minus true part code e = absurd (cc)
 term-lone minus false (PlainNumber literal) code e = absurd (cc)
-term-lone minus false (PlainHead spelling) code e = same_code (IsLone (record { minus = minus; negative = false; part = PlainHead spelling } ∷ [])) (PlainHeadCode spelling) code (head-lone minus spelling) e
-term-lone minus false (PlainLine spelling) code e = same_code (IsLone (record { minus = minus; negative = false; part = PlainLine spelling } ∷ [])) (PlainLineCode spelling) code (line-lone minus spelling) e
+term-lone minus false (PlainHead spelling) code e =
+    subst (IsLone (record { minus = minus; negative = false; part = PlainHead spelling } ∷ [])) (value-same (PlainHeadCode spelling) code e) (head-lone minus spelling)
+term-lone minus false (PlainLine spelling) code e =
+    subst (IsLone (record { minus = minus; negative = false; part = PlainLine spelling } ∷ [])) (value-same (PlainLineCode spelling) code e) (line-lone minus spelling)
 term-lone minus false (PlainTotal spelling) code e = absurd (cc)
 term-lone minus false PlainCost code e = absurd (cc)
 
@@ -125,14 +128,10 @@ lone_field-lone [] code e = absurd (cc)
 lone_field-lone (term ∷ []) code e = term-lone term.minus term.negative term.part code e
 lone_field-lone (term ∷ next ∷ terms) code e = absurd (cc)
 
-kept : (test : Bool) (a b : PlainCode) → cond test (Some a) None ≡ Some b → ◌≡◌ {A = Option PlainCode} (Some a) (Some b)
-kept true a b e = e
-kept false a b e = absurd (cc)
-
 of_field : (kind : Kind) (field : Option PlainCode) (code : PlainCode)
     → option_and_then (λ c. cond (has_code kind c) (Some c) None) field ≡ Some code → field ≡ Some code
 of_field kind None code e = absurd (cc)
-of_field kind (Some c) code e = kept (has_code kind c) c code e
+of_field kind (Some c) code e = ap Some (cond_some (has_code kind c) c code e).1
 
 lone_code-lone : (kind : Kind) (terms : List PlainTerm) (code : PlainCode) → lone_code kind terms ≡ Some code → IsLone terms code
 unfolding lone_code
@@ -242,18 +241,15 @@ sums_of-written kind round left test right left_read right_read =
       same = sums-same kind round left test right p are;
       fits = and_from _ _ are.first.fits are.second.fits })
 
-same_mark : (P : Bool → Type 0) (a b : Bool) → P a → ◌≡◌ {A = Option Bool} (Some a) (Some b) → P b
-same_mark P a b p e = subst P (cc) p
-
 -- a test for equality is written as the mark between codes
 mark-same : (test : Test) (equal : Bool) → equality_of test ≡ Some equal → plain_test_text test ≡ plain_equal_text equal
 unfolding equality_of plain_test_text
 mark-same Less equal e = absurd (cc)
 mark-same AtMost equal e = absurd (cc)
-mark-same Equal equal e = same_mark (λ b. codes "=" ≡ plain_equal_text b) true equal refl e
+mark-same Equal equal e = ap plain_equal_text (value-same true equal e)
 mark-same AtLeast equal e = absurd (cc)
 mark-same Greater equal e = absurd (cc)
-mark-same Differs equal e = same_mark (λ b. codes "<>" ≡ plain_equal_text b) false equal refl e
+mark-same Differs equal e = ap plain_equal_text (value-same false equal e)
 
 -- what two sums are read as, where both are fields with codes
 fields-written : (kind : Kind) (round : Round) (left : List PlainTerm) (test : Test) (right : List PlainTerm) (a b : PlainCode) (equal : Bool)
