@@ -1,5 +1,5 @@
 -- Codes and binds are written as they were read.
-use Rattle.std.proofs.Common.{◌≡◌, ℕ, Bool, true, false, not, ◌&&◌, List, [], ◌∷◌, ◌++◌, codes, Option, Some, None, Result, Ok, Err, IfOk, refl, ap, ap₂, ◌∙◌, slice_get}
+use Rattle.std.proofs.Common.{◌≡◌, Bool, true, not, List, ◌++◌, codes, IfOk, refl, ap, ap₂, slice_get}
 use Rattle.std.proofs.lemmas.Bool.{and_from, and_parts}
 use Rattle.std.specs.Bool.{⊤}
 use Rattle.std.specs.List.{AllZip, list_all}
@@ -17,7 +17,7 @@ use Rattle.rule_text.proofs.PlainTexts.{code_text as plain_code_text, to_text as
 use Rattle.rule_text.proofs.ReadTests.{spelling_read, code_read, to_read, bind_read}
 use Rattle.rule_lang.specs.Binds.{bind_to, bind_of}
 use Rattle.rule_lang.specs.Fields.{place_of, code_field}
-use Rattle.rule_lang.specs.Least.{Checked, beside, each}
+use Rattle.rule_lang.specs.Least.{beside, each}
 use Rattle.rule_lang.specs.RuleTexts.{to_text, bind_text, binds_text}
 use Rattle.rule_lang.specs.Terms.{line_code, code_of}
 use Rattle.rule_lang.specs.TermTexts.{code_text}
@@ -95,6 +95,7 @@ binds-written kind round register plains read =
     IfOk-follows (each (bind_of kind round register) plains) (AllZip (IsBind kind register) plains) (AreBinds kind register plains)
     (λ binds all. record {
       text = listed-zip (λ _. codes ", ") plain_bind_text (λ _. codes ", ") (bind_text kind register) plains binds
-        (AllZip-follows (IsBind kind register) (λ p b. (codes ", " ≡ codes ", ") × (bind_text kind register b ≡ plain_bind_text p)) (λ p b is. (refl, is.text)) plains binds all);
-      fits = zip-all bind_fits plains binds (AllZip-follows (IsBind kind register) (λ p b. bind_fits p ≡ true) (λ p b is. is.fits) plains binds all) })
+          (AllZip-follows (IsBind kind register) (λ p b. (codes ", " ≡ codes ", ") × (bind_text kind register b ≡ plain_bind_text p)) (λ p b is. (refl, is.text)) plains binds all);
+      fits = zip-all bind_fits plains binds (AllZip-follows (IsBind kind register) (λ p b. bind_fits p ≡ true) (λ p b is. is.fits) plains binds all);
+    })
     (each-zip (bind_of kind round register) bind_read (IsBind kind register) (bind_of-written kind round register) plains read)

@@ -1,5 +1,5 @@
 -- The places of conditions are those of what they name, and both sums have one scale.
-use Rattle.std.proofs.Common.{◌≡◌, ℕ, Bool, true, false, List, [], ◌∷◌, Option, Some, None, Result, Ok, Err, IfOk, ◌⊎◌, inl, inr, refl, ap, sym, ◌∙◌}
+use Rattle.std.proofs.Common.{◌≡◌, ℕ, Bool, true, false, List, [], ◌∷◌, Option, Some, None, Ok, Err, IfOk, ◌⊎◌, inl, inr, refl, ap, sym, ◌∙◌}
 use Rattle.std.specs.Bool.{⊤}
 use Rattle.cfg_model.specs.declared.kind.Field.{Field}
 use Rattle.cfg_model.specs.declared.kind.Kind.{Kind}
@@ -15,13 +15,11 @@ use Rattle.rule_lang.specs.Conditions.{scale_of_field, scale_of_part, first_scal
 use Rattle.rule_text.specs.Plain.{equality_of}
 use Rattle.rule_lang.specs.Fields.{fits, field_of, number_field}
 use Rattle.rule_lang.specs.Least.{Checked, both, with_first, each}
-use Rattle.rule_lang.specs.Resolved.{is_code, is_sum, IsCond}
+use Rattle.rule_lang.specs.Resolved.{is_sum, IsCond}
 use Rattle.rule_lang.specs.Rules.{when_of}
 use Rattle.rule_lang.specs.Terms.{line_part, cost_part, part_of, term_of, sum_of, code_of}
 use Rattle.rule_lang.specs.declared.fault.RuleWhy.TheVariants.{WrongType, WrongScope}
 use Rattle.rule_lang.specs.declared.fields.FieldAt.{FieldAt}
-use Rattle.rule_lang.specs.declared.statement.CodeTerm.{CodeTerm}
-use Rattle.rule_lang.specs.declared.statement.Term.{Term}
 use Rattle.rule_lang.specs.declared.statement.Cond.{Cond}
 use Rattle.rule_lang.specs.declared.statement.Sum.{Sum}
 use Rattle.rule_lang.specs.declared.terms.Round.{Round}

@@ -1,5 +1,5 @@
 -- What holds of each statement of accepted rules.
-use Rattle.std.proofs.Common.{◌≡◌, ℕ, ◌+◌, Bool, true, false, nat_lt, List, [], ◌∷◌, Option, Some, None, Result, Ok, Err, IfOk, refl, arith}
+use Rattle.std.proofs.Common.{◌≡◌, ℕ, ◌+◌, true, nat_lt, List, [], ◌∷◌, Option, None, Ok, Err, IfOk, arith}
 use Rattle.std.specs.Bool.{⊤}
 use Rattle.std.specs.List.{All, AllZip}
 use Rattle.reg_base.specs.Results.{unless}
@@ -8,7 +8,7 @@ use Rattle.cfg_model.specs.declared.kind.Kind.{Kind}
 use Rattle.rule_text.specs.declared.plain.PlainStatement.{PlainStatement}
 use Rattle.rule_lang.specs.Costs.{round_of, costs_after}
 use Rattle.rule_lang.specs.Least.{Checked, both, beside}
-use Rattle.rule_lang.specs.Resolved.{is_act, IsCond, IsResolved}
+use Rattle.rule_lang.specs.Resolved.{IsResolved}
 use Rattle.rule_lang.specs.Rules.{statement_limit, scope_fits, when_of, last_fits, finished, statement_in, statement_of, fault_at, statements_from, read_for, kind_rules, each_kind, rules_of}
 use Rattle.rule_lang.specs.SequenceLaws.{KeepsSequences}
 use Rattle.rule_lang.specs.Sequences.{keeps_sequences}

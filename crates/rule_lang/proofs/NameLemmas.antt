@@ -6,8 +6,6 @@ use Rattle.std.proofs.lemmas.Slice.Eq.{bytes_eq-Decides}
 use Rattle.std.proofs.lemmas.Bool.{eqb-true}
 use Rattle.std.specs.List.{position}
 use Rattle.std.specs.Str.{bytes_eq}
-use Rattle.reg_base.specs.Codes.{is_name}
-use Rattle.reg_base.specs.Results.{◌>>=◌, unless, some_or}
 use Rattle.cfg_model.specs.declared.kind.Field.{Field}
 use Rattle.rule_text.specs.declared.token.Spelling.{Spelling}
 use Rattle.rule_text.specs.declared.token.Spelling.TheVariants.{Named, Other}
@@ -17,7 +15,6 @@ use Rattle.rule_lang.specs.Conditions.{scale_of_field}
 use Rattle.rule_lang.specs.Fields.{small_place, place_of, field_of, fits, number_field, code_field}
 use Rattle.rule_lang.specs.TermTexts.{text_if, name_at, field_scale}
 use Rattle.rule_lang.specs.declared.fault.RuleWhy.TheVariants.{UnknownName, WrongType}
-use Rattle.rule_lang.specs.declared.fields.FieldAt.{FieldAt}
 use Rattle.rule_lang.proofs.ConditionLemmas.{found-scale}
 use Rattle.rule_lang.proofs.StepLemmas.{step-IfOk, some-IfOk, must-IfOk, self-IfOk, IfOk-follows}
 

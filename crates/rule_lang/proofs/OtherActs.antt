@@ -1,6 +1,6 @@
 -- What the acts and statements of a type are does not depend on the texts of types.
-use Rattle.std.proofs.Common.{◌≡◌, ℕ, ◌+◌, Bool, true, false, not, nat_lt, List, [], ◌∷◌, Option, Some, None, Result, Ok, Err, refl, ap, ap₂, sym, ◌∙◌, slice_get}
-use Rattle.reg_base.specs.Results.{◌>>=◌, unless}
+use Rattle.std.proofs.Common.{◌≡◌, ℕ, ◌+◌, Bool, true, false, List, [], ◌∷◌, Option, Some, None, Ok, Err, refl, ap, ◌∙◌, slice_get}
+use Rattle.reg_base.specs.Results.{◌>>=◌}
 use Rattle.cfg_model.specs.declared.config.Config.{Config}
 use Rattle.cfg_model.specs.declared.kind.Kind.{Kind}
 use Rattle.cfg_model.specs.declared.ledger.Chart.{Chart}
@@ -18,7 +18,6 @@ use Rattle.rule_text.specs.declared.plain.Target.{Target}
 use Rattle.rule_text.specs.declared.plain.Verb.{Verb}
 use Rattle.rule_text.specs.declared.token.Spelling.{Spelling}
 use Rattle.rule_lang.specs.Acts.{act_of}
-use Rattle.rule_lang.specs.Binds.{bind_of, amount_of}
 use Rattle.rule_lang.specs.Costs.{round_of, scale_at, costs_after}
 use Rattle.rule_lang.specs.Entries.{account_of, side_of, entry_act, entry_of}
 use Rattle.rule_lang.specs.Fields.{place_of, item_at}
@@ -26,16 +25,13 @@ use Rattle.rule_lang.specs.Least.{Checked, both, beside, each}
 use Rattle.rule_lang.specs.Makes.{make_fits, make_act, made, make_of}
 use Rattle.rule_lang.specs.Printed.{with_rules, with_kinds}
 use Rattle.rule_lang.specs.Requirements.{require_fits, require_act, required, require_of, control_of}
-use Rattle.rule_lang.specs.Rules.{statement_limit, scope_fits, when_of, last_fits, finished, statement_in, statement_of, fault_at, statements_from}
+use Rattle.rule_lang.specs.Rules.{scope_fits, last_fits, finished, statement_in, statement_of, fault_at, statements_from}
 use Rattle.rule_lang.specs.Sequences.{sequence_fits, sequences_fit, keeps_sequences}
-use Rattle.rule_lang.specs.Terms.{sum_of, code_of}
 use Rattle.rule_lang.specs.WriteOffs.{write_off_fits, write_off_act, written_off, write_off_of}
 use Rattle.rule_lang.specs.declared.costs.Costs.{Costs}
-use Rattle.rule_lang.specs.declared.fault.RuleWhy.TheVariants.{TooMany, SequenceUnbound}
 use Rattle.rule_lang.specs.declared.statement.Act.{Act}
 use Rattle.rule_lang.specs.declared.statement.Act.TheVariants.{Make, WriteOff, Require, Control, Entry}
 use Rattle.rule_lang.specs.declared.statement.Bind.{Bind}
-use Rattle.rule_lang.specs.declared.statement.Cond.{Cond}
 use Rattle.rule_lang.specs.declared.terms.Round.{Round}
 use Rattle.rule_lang.proofs.OtherTexts.{sum_of-rules, code_of-rules, when_of-rules, bind_of-rules, amount_of-rules}
 

@@ -1,30 +1,25 @@
 -- What a statement is in a document type does not depend on the texts of types.
-use Rattle.std.proofs.Common.{◌≡◌, ℕ, Bool, true, false, not, cond, List, [], ◌∷◌, Option, Some, None, option_and_then, Result, Ok, Err, refl, ap, ap₂, sym, ◌∙◌, slice_get}
-use Rattle.reg_base.specs.Results.{◌>>=◌, unless}
-use Rattle.cfg_model.specs.declared.config.Config.{Config}
+use Rattle.std.proofs.Common.{◌≡◌, ℕ, Bool, cond, List, [], ◌∷◌, Option, Some, None, option_and_then, Ok, refl, ap, ◌∙◌}
+use Rattle.reg_base.specs.Results.{◌>>=◌}
 use Rattle.cfg_model.specs.declared.kind.Kind.{Kind}
-use Rattle.cfg_model.specs.declared.ledger.Chart.{Chart}
 use Rattle.cfg_model.specs.declared.register.Dimension.{Dimension}
 use Rattle.cfg_model.specs.declared.register.Register.{Register}
 use Rattle.cfg_model.specs.declared.register.Resource.{Resource}
 use Rattle.rule_text.specs.Plain.{lone_field, equality_of}
-use Rattle.rule_text.specs.declared.plain.PlainAmount.{PlainAmount}
-use Rattle.rule_text.specs.declared.plain.PlainBind.{PlainBind}
 use Rattle.rule_text.specs.declared.plain.PlainCode.{PlainCode}
 use Rattle.rule_text.specs.declared.plain.PlainCode.TheVariants.{Text as PlainText, Head as PlainHeadCode, Line as PlainLineCode}
 use Rattle.rule_text.specs.declared.plain.PlainCond.{PlainCond}
 use Rattle.rule_text.specs.declared.plain.PlainCond.TheVariants.{Sums as PlainSums, Codes as PlainCodes}
 use Rattle.rule_text.specs.declared.plain.PlainPart.{PlainPart}
 use Rattle.rule_text.specs.declared.plain.PlainPart.TheVariants.{Number as PlainNumber, Head as PlainHead, Line as PlainLine, Total as PlainTotal, Cost as PlainCost}
-use Rattle.rule_text.specs.declared.plain.PlainSide.{PlainSide}
 use Rattle.rule_text.specs.declared.plain.PlainTerm.{PlainTerm}
 use Rattle.rule_text.specs.declared.plain.PlainTo.{PlainTo}
 use Rattle.rule_text.specs.declared.plain.PlainTo.TheVariants.{Code as PlainCodeTo, Point as PlainPoint}
 use Rattle.rule_text.specs.declared.plain.Test.{Test}
 use Rattle.rule_lang.specs.Binds.{bind_to, bind_of, amount_of}
-use Rattle.rule_lang.specs.Conditions.{scale_of_field, scale_of_part, first_scale, asked_scale, sums_of, codes_of, has_code, lone_code, compared, cond_of}
+use Rattle.rule_lang.specs.Conditions.{scale_of_part, first_scale, asked_scale, sums_of, codes_of, has_code, lone_code, compared, cond_of}
 use Rattle.rule_lang.specs.Fields.{place_of, item_at}
-use Rattle.rule_lang.specs.Least.{Checked, both, beside, each}
+use Rattle.rule_lang.specs.Least.{Checked, each}
 use Rattle.rule_lang.specs.Printed.{with_rules}
 use Rattle.rule_lang.specs.Rules.{when_of}
 use Rattle.rule_lang.specs.Terms.{line_part, part_of, term_of, sum_of, line_code, code_of}
@@ -84,8 +79,11 @@ sums_of-rules : (kind : Kind) (text : List ℕ) (round : Round) (left : List Pla
     → sums_of (with_rules kind text) round left test right ≡ sums_of kind round left test right
 unfolding sums_of
 sums_of-rules kind text round left test right =
-    rw (asked_scale-rules kind text round left right,
-    sum_of-rules kind text round (asked_scale kind round left right) left, sum_of-rules kind text round (asked_scale kind round left right) right) refl
+    rw (
+      asked_scale-rules kind text round left right,
+      sum_of-rules kind text round (asked_scale kind round left right) left,
+      sum_of-rules kind text round (asked_scale kind round left right) right,
+    ) refl
 
 codes_of-rules : (kind : Kind) (text : List ℕ) (round : Round) (left : PlainCode) (equal : Bool) (right : PlainCode)
     → codes_of (with_rules kind text) round left equal right ≡ codes_of kind round left equal right

@@ -1,7 +1,6 @@
 -- The canonical text of a type is read back to the same statements.
-use Rattle.std.proofs.Common.{◌≡◌, ℕ, zero, suc, ◌+◌, drop, add-one, Bool, true, false, List, [], ◌∷◌, Option, Some, None, Result, Ok, Err, IfOk, refl, ap, subst, ◌∙◌, slice_get}
+use Rattle.std.proofs.Common.{◌≡◌, ℕ, zero, suc, ◌+◌, drop, add-one, true, List, [], ◌∷◌, Some, None, Result, Ok, Err, IfOk, refl, ap, subst, ◌∙◌, slice_get}
 use Rattle.std.specs.List.{list_all}
-use Rattle.reg_base.specs.Results.{◌>>=◌}
 use Rattle.cfg_model.specs.declared.config.Config.{Config}
 use Rattle.cfg_model.specs.declared.kind.Kind.{Kind}
 use Rattle.rule_text.specs.Sentences.{statements_of}
@@ -13,7 +12,7 @@ use Rattle.rule_text.proofs.ReadTests.{statement_read}
 use Rattle.rule_text.proofs.StatementReads.{statements_of-fits}
 use Rattle.rule_text.proofs.TextsReadBack.{texts-read-back}
 use Rattle.rule_lang.specs.Printed.{with_rules, with_kinds, printed_from, printed}
-use Rattle.rule_lang.specs.Rules.{statements_from, read_for, kind_rules, each_kind, rules_of}
+use Rattle.rule_lang.specs.Rules.{read_for, kind_rules, each_kind, rules_of}
 use Rattle.rule_lang.specs.RuleTexts.{statements_text, rules_text}
 use Rattle.rule_lang.specs.TermTexts.{text_if}
 use Rattle.rule_lang.specs.declared.costs.Costs.{Costs}
@@ -75,8 +74,11 @@ kinds_read_back config place (kind ∷ kinds) is =
     (λ statements are. step-IfOk _ _ (each_kind config kinds)
     (λ rules. (others : List Kind) → each_kind (with_kinds config others) (printed_from config (place + 1) kinds rules) ≡ Ok rules)
     (kinds_read_back config (place + 1) kinds (rw add-one at.1))
-    (λ rules rest others. rw (read_back config others kind (rules_text config place statements) statements are
-    (ap (text_if (λ (k : Kind). statements_text config k no_costs statements)) at.0 ∙ are.text), rest others) refl))
+    (λ rules rest others. rw (
+      read_back config others kind (rules_text config place statements) statements are
+          (ap (text_if (λ (k : Kind). statements_text config k no_costs statements)) at.0 ∙ are.text),
+      rest others,
+    ) refl))
 
 -- the canonical texts in the place of the types' own give the same rules
 pub rules_read_back : (config : Config) → IfOk (rules_of config) (λ rules. rules_of (printed config rules) ≡ Ok rules)

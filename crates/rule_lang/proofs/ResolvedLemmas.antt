@@ -1,7 +1,6 @@
 -- The places of terms, binds and amounts are those of what they name.
-use Rattle.std.proofs.Common.{◌≡◌, ℕ, Bool, true, false, not, ◌&&◌, List, [], ◌∷◌, Option, Some, None, Result, Ok, Err, IfOk, refl, ap, sym, ◌∙◌, slice_get, is_none, is_some}
+use Rattle.std.proofs.Common.{◌≡◌, ℕ, Bool, true, not, List, Some, IfOk, refl, ap, sym, ◌∙◌, slice_get, is_none}
 use Rattle.std.proofs.lemmas.Bool.{and_from}
-use Rattle.std.specs.List.{list_all}
 use Rattle.cfg_model.specs.declared.kind.Field.{Field}
 use Rattle.cfg_model.specs.declared.kind.Kind.{Kind}
 use Rattle.cfg_model.specs.declared.register.Dimension.{Dimension}
@@ -16,7 +15,6 @@ use Rattle.rule_text.specs.declared.plain.PlainPart.TheVariants.{Number as Plain
 use Rattle.rule_text.specs.declared.plain.PlainTerm.{PlainTerm}
 use Rattle.rule_text.specs.declared.plain.PlainTo.{PlainTo}
 use Rattle.rule_text.specs.declared.plain.PlainTo.TheVariants.{Code as PlainCodeTo, Point as PlainPoint}
-use Rattle.rule_text.specs.declared.token.Literal.{Literal}
 use Rattle.rule_text.specs.declared.token.Spelling.{Spelling}
 use Rattle.rule_lang.specs.Binds.{bind_to, bind_of, amount_of}
 use Rattle.reg_base.specs.Results.{unless}

@@ -1,11 +1,9 @@
 -- Sums with all the decimals of their scale: they are written so, and read as the same.
-use Rattle.std.proofs.Common.{◌≡◌, ℕ, ◌-◌, ◌*◌, ◌^◌, Bool, true, false, not, ◌&&◌, cond, nat_le, List, [], ◌∷◌, ◌++◌, map, codes, Option, Some, None, Result, Ok, Err, IfOk, ℤ, pos, refl, ap, ap₂, sym, ◌∙◌, arith}
+use Rattle.std.proofs.Common.{◌≡◌, ℕ, ◌-◌, ◌*◌, ◌^◌, Bool, true, false, not, ◌&&◌, cond, nat_le, List, [], ◌∷◌, ◌++◌, map, codes, Option, Some, None, Ok, IfOk, ℤ, pos, refl, ap, ap₂, sym, ◌∙◌, arith}
 use Rattle.std.proofs.lemmas.Bool.{and_from, and_parts, le-leb}
 use Rattle.std.proofs.lemmas.Option.{cond_some}
 use Rattle.std.specs.List.{AllZip, list_all}
 use Rattle.reg_base.specs.Numbers.{largest_units, sum_text}
-use Rattle.reg_base.specs.Results.{◌>>=◌}
-use Rattle.cfg_model.specs.declared.kind.Field.{Field}
 use Rattle.cfg_model.specs.declared.kind.Kind.{Kind}
 use Rattle.rule_text.specs.declared.plain.PlainPart.{PlainPart}
 use Rattle.rule_text.specs.declared.plain.PlainPart.TheVariants.{Number as PlainNumber, Head as PlainHead, Line as PlainLine, Total as PlainTotal, Cost as PlainCost}
@@ -18,14 +16,14 @@ use Rattle.rule_lang.specs.Conditions.{scale_of_part, first_scale}
 use Rattle.rule_lang.specs.Fields.{fits, number_field, units_at}
 use Rattle.rule_lang.specs.Least.{each}
 use Rattle.rule_lang.specs.Terms.{literal_at, line_part, cost_part, part_of, term_of, sum_of}
-use Rattle.rule_lang.specs.TermTexts.{units_text, part_text, term_text, joint_text, terms_text, part_scale, terms_scale}
+use Rattle.rule_lang.specs.TermTexts.{part_text, term_text, joint_text, terms_text, part_scale, terms_scale}
 use Rattle.rule_lang.specs.declared.fault.RuleWhy.TheVariants.{WrongType, WrongScope}
 use Rattle.rule_lang.specs.declared.statement.Part.{Part}
-use Rattle.rule_lang.specs.declared.statement.Part.TheVariants.{Number, Head, Line, Total, Cost}
+use Rattle.rule_lang.specs.declared.statement.Part.TheVariants.{Number}
 use Rattle.rule_lang.specs.declared.statement.Sum.{Sum}
 use Rattle.rule_lang.specs.declared.statement.Term.{Term}
 use Rattle.rule_lang.specs.declared.terms.Round.{Round}
-use Rattle.rule_lang.proofs.NameLemmas.{IfOk-self, IsField, number_field-written, fits-Some}
+use Rattle.rule_lang.proofs.NameLemmas.{IfOk-self, IsField, number_field-written}
 use Rattle.rule_lang.proofs.StepLemmas.{step-IfOk, some-IfOk, must-IfOk, IfOk-follows, AllZip-follows}
 use Rattle.rule_lang.proofs.ZipLemmas.{each-zip, zip-each, zip-map, zip-all, listed-zip}
 
@@ -104,10 +102,11 @@ number-scaled : (kind : Kind) (round : Round) (scale : ℕ) (literal : Literal) 
     → IsPart kind round scale (PlainNumber literal) (Number units)
 unfolding part_of literal_at part_text plain_part_text part_fits scale_of_part part_scale literal_text
 number-scaled kind round scale literal units has = record {
-    text = ap (λ u. sum_text u scale) has.is;
-    same = rw (units_at-scaled scale literal units has) refl;
-    fits = has.fits;
-    brings = refl }
+  text = ap (λ u. sum_text u scale) has.is;
+  same = rw (units_at-scaled scale literal units has) refl;
+  fits = has.fits;
+  brings = refl;
+}
 
 head-text : (kind : Kind) (round : Round) (scale : ℕ) (spelling : Spelling) → spelling_read spelling ≡ true
     → IfOk (part_of kind round (Some scale) (PlainHead spelling)) (HasText kind round scale (PlainHead spelling))
@@ -174,7 +173,8 @@ term_of-scaled kind round scale plain read =
       text = ap₂ ◌++◌ (sign-same plain.negative) is.text;
       same = rw is.same refl;
       fits = is.fits;
-      brings = is.brings })
+      brings = is.brings;
+    })
 
 -- the scale that the first of the terms brings is that of the first that are read
 scale-first : (kind : Kind) (round : Round) (other : Option ℕ) (plain : PlainTerm) (plains : List PlainTerm) (term : Term) (terms : List Term) (scale : Option ℕ)
@@ -247,4 +247,5 @@ sum_of-scaled kind round scale plain read = step-IfOk _ _ (each (term_of kind ro
       text = text-zip kind round scale plain terms all;
       same = same-zip kind round scale plain terms all;
       fits = fits-zip kind round scale plain terms read all;
-      brings = λ other. scale-zip kind round scale other plain terms all })
+      brings = λ other. scale-zip kind round scale other plain terms all;
+    })

@@ -1,18 +1,17 @@
 -- What holds of a value that is made in steps.
-use Rattle.std.proofs.Common.{◌≡◌, ℕ, suc, zero, ◌<◌, Bool, true, false, cond, nat_lt, ◌&&◌, List, [], ◌∷◌, length, get_or, Option, Some, None, Result, Ok, Err, IfOk, refl, ap, sym, ◌∙◌, arith, is_some, slice_get}
+use Rattle.std.proofs.Common.{◌≡◌, ℕ, suc, zero, Bool, true, false, cond, nat_lt, List, [], ◌∷◌, Option, Some, None, Result, Ok, Err, IfOk, refl, ap, ◌∙◌, arith, is_some, slice_get}
 use Rattle.std.specs.Bool.{⊤}
 use Rattle.std.proofs.lemmas.Bool.{and_from}
 use Rattle.std.proofs.lemmas.List.Quantifiers.{position-Some}
 use Rattle.std.proofs.lemmas.Option.{slice_get-get_or}
 use Rattle.std.specs.Str.{bytes_eq}
-use Rattle.std.specs.List.{All, AllZip, list_all, position, slice_index_or}
+use Rattle.std.specs.List.{All, AllZip, list_all, position}
 use Rattle.reg_base.specs.Results.{◌>>=◌, unless, some_or}
 use Rattle.rule_text.specs.declared.token.Spelling.{Spelling}
 use Rattle.rule_text.specs.declared.token.Spelling.TheVariants.{Named, Other}
 use Rattle.rule_lang.specs.Fields.{small_place, place_of}
 use Rattle.rule_lang.specs.Least.{Checked, both, beside, with_first, each}
 use Rattle.rule_lang.specs.Resolved.{passes, stands_at}
-use Rattle.rule_lang.specs.declared.fault.RuleWhy.{RuleWhy}
 use Rattle.rule_lang.specs.declared.fault.RuleWhy.TheVariants.{UnknownName}
 
 -- what holds of the first step's value, and then of the second's

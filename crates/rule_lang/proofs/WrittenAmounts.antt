@@ -1,20 +1,19 @@
 -- Resources with their numbers are written so that they read as the same.
-use Rattle.std.proofs.Common.{◌≡◌, ℕ, Bool, true, false, ◌&&◌, List, [], ◌∷◌, ◌++◌, map, codes, Option, Some, None, option_map, Result, Ok, Err, IfOk, refl, ap, ap₂, sym, subst, ◌∙◌, slice_get}
+use Rattle.std.proofs.Common.{◌≡◌, ℕ, true, List, [], ◌∷◌, ◌++◌, map, codes, Option, Some, None, option_map, Ok, Err, IfOk, refl, ap, ap₂, sym, subst, ◌∙◌, slice_get}
 use Rattle.std.proofs.lemmas.Bool.{and_from, and_parts}
 use Rattle.std.specs.List.{AllZip, list_all}
-use Rattle.reg_base.specs.Results.{◌>>=◌}
 use Rattle.cfg_model.specs.declared.kind.Kind.{Kind}
 use Rattle.cfg_model.specs.declared.register.Register.{Register}
 use Rattle.cfg_model.specs.declared.register.Resource.{Resource}
 use Rattle.rule_text.specs.declared.plain.PlainAmount.{PlainAmount}
-use Rattle.rule_text.proofs.PlainTexts.{amount_text as plain_amount_text, amounts_text as plain_amounts_text, is_small, is_named, terms_fit, amount_fits, amounts_fit}
+use Rattle.rule_text.proofs.PlainTexts.{amount_text as plain_amount_text, amounts_text as plain_amounts_text, is_small, amount_fits, amounts_fit}
 use Rattle.rule_text.proofs.ReadTests.{spelling_read, terms_read, amount_read, amounts_read}
 use Rattle.rule_lang.specs.Binds.{amount_of}
 use Rattle.rule_lang.specs.Fields.{place_of}
 use Rattle.rule_lang.specs.Least.{Checked, each}
 use Rattle.rule_lang.specs.RuleTexts.{amount_text, amounts_text}
 use Rattle.rule_lang.specs.Terms.{sum_of}
-use Rattle.rule_lang.specs.TermTexts.{name_at, terms_text}
+use Rattle.rule_lang.specs.TermTexts.{terms_text}
 use Rattle.rule_lang.specs.declared.fault.RuleWhy.TheVariants.{UnknownName}
 use Rattle.rule_lang.specs.declared.statement.Sum.{Sum}
 use Rattle.rule_lang.specs.declared.terms.Round.{Round}
@@ -36,7 +35,8 @@ scale_there register (Err why) = 0
 abbrev pub scaled_amount : Register → PlainAmount → PlainAmount
 scaled_amount register plain = record {
   resource = plain.resource;
-  sum = scaled_terms (scale_there register (place_of (λ (r : Resource). r.name) register.resources plain.resource)) plain.sum }
+  sum = scaled_terms (scale_there register (place_of (λ (r : Resource). r.name) register.resources plain.resource)) plain.sum;
+}
 
 -- a resource with its number is written so that it reads as the same
 pub record IsAmount (kind : Kind) (round : Round) (register : Register) (written : PlainAmount) (amount : ℕ × Sum) : Type 0 where
@@ -53,9 +53,10 @@ amount-at : (kind : Kind) (round : Round) (register : Register) (plain : PlainAm
 unfolding amount_of amount_text plain_amount_text
 amount-at kind round register plain place resource sum found written at is = record {
   text = ap₂ (λ a b. a ++ (codes " = " ++ b)) written.name
-    (ap (λ r. terms_text kind (option_map (λ (s : Resource). s.scale) r) sum.terms) at ∙ is.text);
+      (ap (λ r. terms_text kind (option_map (λ (s : Resource). s.scale) r) sum.terms) at ∙ is.text);
   same = rw (found, at, is.same) refl;
-  fits = and_from _ _ written.named is.fits }
+  fits = and_from _ _ written.named is.fits;
+}
 
 pub amount_of-written : (kind : Kind) (round : Round) (register : Register) (plain : PlainAmount) → amount_read plain ≡ true
     → IfOk (amount_of kind round register plain) (IsAmount kind round register (scaled_amount register plain))
@@ -97,12 +98,13 @@ amounts-zip kind round register plains sums read all =
     let written = map (scaled_amount register) plains in
     record {
       text = listed-zip (λ _. codes ", ") plain_amount_text (λ _. codes ", ") (λ (s : ℕ × Sum). amount_text kind register s.0 s.1.terms) written sums
-        (AllZip-follows (IsAmount kind round register) (λ p s. (codes ", " ≡ codes ", ") × (amount_text kind register s.0 s.1.terms ≡ plain_amount_text p))
-        (λ p s is. (refl, is.text)) written sums all);
+          (AllZip-follows (IsAmount kind round register) (λ p s. (codes ", " ≡ codes ", ") × (amount_text kind register s.0 s.1.terms ≡ plain_amount_text p))
+          (λ p s is. (refl, is.text)) written sums all);
       same = zip-each (amount_of kind round register) written sums
-        (AllZip-follows (IsAmount kind round register) (λ p s. amount_of kind round register p ≡ Ok s) (λ p s is. is.same) written sums all);
+          (AllZip-follows (IsAmount kind round register) (λ p s. amount_of kind round register p ≡ Ok s) (λ p s is. is.same) written sums all);
       fits = some-fit register plains read (zip-all (amount_fits is_small) written sums
-        (AllZip-follows (IsAmount kind round register) (λ p s. amount_fits is_small p ≡ true) (λ p s is. is.fits) written sums all)) }
+          (AllZip-follows (IsAmount kind round register) (λ p s. amount_fits is_small p ≡ true) (λ p s is. is.fits) written sums all));
+    }
 
 pub amounts-written : (kind : Kind) (round : Round) (register : Register) (plains : List PlainAmount) → amounts_read plains ≡ true
     → IfOk (each (amount_of kind round register) plains) (AreAmounts kind round register (map (scaled_amount register) plains))

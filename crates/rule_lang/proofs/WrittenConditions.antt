@@ -1,13 +1,11 @@
 -- Conditions are written so that they read as the same.
-use Rattle.std.proofs.Common.{◌≡◌, ℕ, Bool, true, false, not, ◌&&◌, cond, List, [], ◌∷◌, ◌++◌, map, codes, Option, Some, None, option_and_then, Result, Ok, Err, IfOk, refl, ap, ap₂, subst, sym, ◌∙◌, append-nil}
+use Rattle.std.proofs.Common.{◌≡◌, ℕ, Bool, true, false, not, ◌&&◌, cond, List, [], ◌∷◌, ◌++◌, codes, Option, Some, None, option_and_then, Ok, IfOk, refl, ap, ap₂, subst, sym, ◌∙◌, append-nil}
 use Rattle.std.proofs.lemmas.Bool.{and_from, and_parts}
-use Rattle.std.proofs.lemmas.Option.{cond_some}
-use Rattle.std.specs.List.{list_all}
-use Rattle.reg_base.specs.Results.{◌>>=◌}
+use Rattle.std.proofs.lemmas.Option.{cond_some, same_Some}
 use Rattle.cfg_model.specs.declared.kind.Kind.{Kind}
 use Rattle.rule_text.specs.Plain.{lone_field, equality_of}
 use Rattle.rule_text.specs.declared.plain.PlainCode.{PlainCode}
-use Rattle.rule_text.specs.declared.plain.PlainCode.TheVariants.{Text as PlainText, Head as PlainHeadCode, Line as PlainLineCode}
+use Rattle.rule_text.specs.declared.plain.PlainCode.TheVariants.{Head as PlainHeadCode, Line as PlainLineCode}
 use Rattle.rule_text.specs.declared.plain.PlainCond.{PlainCond}
 use Rattle.rule_text.specs.declared.plain.PlainCond.TheVariants.{Sums as PlainSums, Codes as PlainCodes}
 use Rattle.rule_text.specs.declared.plain.PlainPart.{PlainPart}
@@ -16,15 +14,14 @@ use Rattle.rule_text.specs.declared.plain.PlainTerm.{PlainTerm}
 use Rattle.rule_text.specs.declared.plain.Test.{Test}
 use Rattle.rule_text.specs.declared.plain.Test.TheVariants.{Less, AtMost, Equal, AtLeast, Greater, Differs}
 use Rattle.rule_text.specs.declared.token.Spelling.{Spelling}
-use Rattle.rule_text.proofs.PlainTexts.{code_text as plain_code_text, part_text as plain_part_text, term_text as plain_term_text, terms_text as plain_terms_text, test_text as plain_test_text, equal_text as plain_equal_text, cond_text as plain_cond_text, code_fits, part_fits, terms_fit, cond_fits, has_text, is_small, is_named}
-use Rattle.rule_text.proofs.ReadTests.{spelling_read, code_read, part_read, term_read, terms_read, cond_read}
+use Rattle.rule_text.proofs.PlainTexts.{code_text as plain_code_text, part_text as plain_part_text, term_text as plain_term_text, terms_text as plain_terms_text, test_text as plain_test_text, equal_text as plain_equal_text, cond_text as plain_cond_text, code_fits, part_fits, terms_fit, cond_fits, has_text, is_small}
+use Rattle.rule_text.proofs.ReadTests.{spelling_read, code_read, part_read, terms_read, cond_read}
 use Rattle.rule_lang.specs.Conditions.{scale_of_part, first_scale, asked_scale, sums_of, codes_of, has_code, lone_code, compared, cond_of}
 use Rattle.rule_lang.specs.Least.{Checked, both}
 use Rattle.rule_lang.specs.Terms.{sum_of, code_of}
-use Rattle.rule_lang.specs.TermTexts.{code_text, terms_text, test_text, equal_text, terms_scale, cond_text}
-use Rattle.rule_lang.specs.declared.statement.CodeTerm.{CodeTerm}
+use Rattle.rule_lang.specs.TermTexts.{test_text, equal_text, cond_text}
 use Rattle.rule_lang.specs.declared.statement.Cond.{Cond}
-use Rattle.rule_lang.specs.declared.statement.Cond.TheVariants.{Sums, Codes}
+use Rattle.rule_lang.specs.declared.statement.Cond.TheVariants.{Sums}
 use Rattle.rule_lang.specs.declared.statement.Sum.{Sum}
 use Rattle.rule_lang.specs.declared.terms.Round.{Round}
 use Rattle.rule_lang.proofs.CodeLemmas.{IsCode, code_of-written}
@@ -69,7 +66,8 @@ codes_of-text kind round left equal right left_read right_read =
     (λ p h. record {
       text = ap₂ ◌++◌ h.0.text (ap₂ (λ a b. codes " " ++ (a ++ (codes " " ++ b))) (equal-same equal) h.1.text);
       left_fits = h.0.fits;
-      right_fits = h.1.fits })
+      right_fits = h.1.fits;
+    })
 
 codes-written : (kind : Kind) (round : Round) (left : PlainCode) (equal : Bool) (right : PlainCode) → cond_read (PlainCodes left equal right) ≡ true
     → IfOk (codes_of kind round left equal right) (IsWrittenCond kind round)
@@ -82,7 +80,8 @@ codes-written kind round left equal right read =
       written = PlainCodes left equal right;
       text = h.1.text;
       same = h.0;
-      fits = and_from _ _ parts.0 (and_from _ _ h.1.left_fits h.1.right_fits) })
+      fits = and_from _ _ parts.0 (and_from _ _ h.1.left_fits h.1.right_fits);
+    })
     (IfOk-self (codes_of kind round left equal right) (AreCodes kind round left equal right)
     (codes_of-text kind round left equal right both_read.0 both_read.1))
 
@@ -97,17 +96,16 @@ unfolding plain_terms_text plain_term_text plain_part_text plain_code_text terms
 head-lone minus spelling = record {
   text = append-nil _;
   read = λ r. (and_parts (spelling_read spelling) true (and_parts (not minus) (spelling_read spelling && true) r).1).0;
-  fits = λ r f. and_from _ _ (and_parts (not minus) (spelling_read spelling && true) r).0 (and_from _ _ f refl) }
+  fits = λ r f. and_from _ _ (and_parts (not minus) (spelling_read spelling && true) r).0 (and_from _ _ f refl);
+}
 
 line-lone : (minus : Bool) (spelling : Spelling) → IsLone (record { minus = minus; negative = false; part = PlainLine spelling } ∷ []) (PlainLineCode spelling)
 unfolding plain_terms_text plain_term_text plain_part_text plain_code_text terms_read part_read code_read terms_fit part_fits code_fits
 line-lone minus spelling = record {
   text = append-nil _;
   read = λ r. (and_parts (spelling_read spelling) true (and_parts (not minus) (spelling_read spelling && true) r).1).0;
-  fits = λ r f. and_from _ _ (and_parts (not minus) (spelling_read spelling && true) r).0 (and_from _ _ f refl) }
-
-value-same : {X : Type 0} (a b : X) → ◌≡◌ {A = Option X} (Some a) (Some b) → a ≡ b
-value-same a b e = cc
+  fits = λ r f. and_from _ _ (and_parts (not minus) (spelling_read spelling && true) r).0 (and_from _ _ f refl);
+}
 
 term-lone : (minus negative : Bool) (part : PlainPart) (code : PlainCode)
     → lone_field (record { minus = minus; negative = negative; part = part } ∷ []) ≡ Some code
@@ -116,9 +114,9 @@ unfolding lone_field
 term-lone minus true part code e = absurd (cc)
 term-lone minus false (PlainNumber literal) code e = absurd (cc)
 term-lone minus false (PlainHead spelling) code e =
-    subst (IsLone (record { minus = minus; negative = false; part = PlainHead spelling } ∷ [])) (value-same (PlainHeadCode spelling) code e) (head-lone minus spelling)
+    subst (IsLone (record { minus = minus; negative = false; part = PlainHead spelling } ∷ [])) (same_Some (PlainHeadCode spelling) code e) (head-lone minus spelling)
 term-lone minus false (PlainLine spelling) code e =
-    subst (IsLone (record { minus = minus; negative = false; part = PlainLine spelling } ∷ [])) (value-same (PlainLineCode spelling) code e) (line-lone minus spelling)
+    subst (IsLone (record { minus = minus; negative = false; part = PlainLine spelling } ∷ [])) (same_Some (PlainLineCode spelling) code e) (line-lone minus spelling)
 term-lone minus false (PlainTotal spelling) code e = absurd (cc)
 term-lone minus false PlainCost code e = absurd (cc)
 
@@ -239,17 +237,18 @@ sums_of-written kind round left test right left_read right_read =
       scale = are.scale;
       text = sums-text kind round left test right p are;
       same = sums-same kind round left test right p are;
-      fits = and_from _ _ are.first.fits are.second.fits })
+      fits = and_from _ _ are.first.fits are.second.fits;
+    })
 
 -- a test for equality is written as the mark between codes
 mark-same : (test : Test) (equal : Bool) → equality_of test ≡ Some equal → plain_test_text test ≡ plain_equal_text equal
 unfolding equality_of plain_test_text
 mark-same Less equal e = absurd (cc)
 mark-same AtMost equal e = absurd (cc)
-mark-same Equal equal e = ap plain_equal_text (value-same true equal e)
+mark-same Equal equal e = ap plain_equal_text (same_Some true equal e)
 mark-same AtLeast equal e = absurd (cc)
 mark-same Greater equal e = absurd (cc)
-mark-same Differs equal e = ap plain_equal_text (value-same false equal e)
+mark-same Differs equal e = ap plain_equal_text (same_Some false equal e)
 
 -- what two sums are read as, where both are fields with codes
 fields-written : (kind : Kind) (round : Round) (left : List PlainTerm) (test : Test) (right : List PlainTerm) (a b : PlainCode) (equal : Bool)
@@ -265,7 +264,8 @@ fields-written kind round left test right a b equal is_left is_test is_right lef
       written = PlainSums left test right;
       text = h.1.text ∙ ap₂ ◌++◌ (sym first.text) (ap₂ (λ t u. codes " " ++ (t ++ (codes " " ++ u))) (sym (mark-same test equal is_test)) (sym second.text));
       same = rw (is_left, is_test, is_right) h.0;
-      fits = and_from _ _ (first.fits left_read h.1.left_fits) (second.fits right_read h.1.right_fits) })
+      fits = and_from _ _ (first.fits left_read h.1.left_fits) (second.fits right_read h.1.right_fits);
+    })
     (IfOk-self (codes_of kind round a equal b) (AreCodes kind round a equal b)
     (codes_of-text kind round a equal b (first.read left_read) (second.read right_read)))
 
@@ -280,7 +280,8 @@ sums-written kind round left test right left_read right_read no_codes =
       written = PlainSums (scaled_terms are.scale left) test (scaled_terms are.scale right);
       text = are.text;
       same = rw (lone_code-scaled kind are.scale left, lone_code-scaled kind are.scale right) (no_codes _ ∙ are.same);
-      fits = are.fits })
+      fits = are.fits;
+    })
     (sums_of-written kind round left test right left_read right_read)
 
 compared-written : (kind : Kind) (round : Round) (left : List PlainTerm) (test : Test) (right : List PlainTerm)

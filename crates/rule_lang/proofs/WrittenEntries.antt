@@ -1,9 +1,8 @@
 -- Entries are written so that they read as the same, and so is each act.
-use Rattle.std.proofs.Common.{◌≡◌, ℕ, Bool, true, false, not, ◌&&◌, List, ◌++◌, codes, Option, Some, None, Result, Ok, Err, IfOk, refl, ap, ap₂, ◌∙◌, slice_get}
+use Rattle.std.proofs.Common.{◌≡◌, ℕ, Bool, true, false, ◌&&◌, List, ◌++◌, codes, Option, Some, None, Ok, IfOk, refl, ap₂, slice_get}
 use Rattle.std.proofs.lemmas.Bool.{and_from, and_parts}
 use Rattle.std.specs.List.{AllZip, list_all}
 use Rattle.reg_base.specs.Codes.{is_code}
-use Rattle.reg_base.specs.Results.{◌>>=◌}
 use Rattle.cfg_model.specs.declared.config.Config.{Config}
 use Rattle.cfg_model.specs.declared.kind.Kind.{Kind}
 use Rattle.cfg_model.specs.declared.ledger.Chart.{Chart}
@@ -25,7 +24,6 @@ use Rattle.rule_lang.specs.RuleTexts.{side_text, entry_text, act_text, scope_tex
 use Rattle.rule_lang.specs.Terms.{code_of, sum_of}
 use Rattle.rule_lang.specs.TermTexts.{code_text, listed}
 use Rattle.rule_lang.specs.declared.fault.RuleWhy.TheVariants.{UnknownName}
-use Rattle.rule_lang.specs.declared.statement.Act.{Act}
 use Rattle.rule_lang.specs.declared.statement.Act.TheVariants.{Entry}
 use Rattle.rule_lang.specs.declared.statement.CodeTerm.{CodeTerm}
 use Rattle.rule_lang.specs.declared.statement.Place.{Place}
@@ -66,7 +64,8 @@ account-written kind round side read =
     (both-IfOk account extras (IsCode kind side.account) (AllZip (IsCode kind) side.extras) (code_of-written kind round side.account parts.0) (each_code-written kind round side.extras parts.1))
     (λ p h. record {
       text = ap₂ (λ a b. a ++ (codes "(" ++ (b ++ codes ")"))) h.0.text (extras-text kind side.extras p.1 h.1);
-      fits = and_from _ _ h.0.fits (extras-fit kind side.extras p.1 h.1) })
+      fits = and_from _ _ h.0.fits (extras-fit kind side.extras p.1 h.1);
+    })
 
 side-written : (kind : Kind) (round : Round) (side : Option PlainSide) → side_read side ≡ true
     → IfOk (side_of kind round side) (IsSide kind side)
@@ -126,14 +125,15 @@ entry-written config kind round ledger sides amount ledger_is debit_is credit_is
     (sum_of-scaled kind round c.scale amount amount_is))
     (λ p g.
     let is : IsEntry kind round sides amount c p =
-      record { debit_at = g.0.0.0; debit = g.0.0.1; credit_at = g.0.1.0; credit = g.0.1.1; is_sum = g.1 } in
+    record { debit_at = g.0.0.0; debit = g.0.0.1; credit_at = g.0.1.0; credit = g.0.1.1; is_sum = g.1 } in
     record {
       written = PlainEntry ledger sides (scaled_terms c.scale amount);
       text = entry-text config kind round place c ledger sides amount p h.1 at is;
       same = entry-same config kind round place c ledger sides amount p h.0 at is;
       fits = and_from _ _ h.1.named (and_from _ _ is.debit.fits (and_from _ _ is.credit.fits is.is_sum.fits));
       is = refl;
-      scope = entry-scope place p.0.0 p.0.1 p.1 })))
+      scope = entry-scope place p.0.0 p.0.1 p.1;
+    })))
 
 -- an act that is accepted is written so that it reads as the same
 pub act_of-written : (config : Config) (kind : Kind) (round : Round) (plain : PlainAct) → act_read plain ≡ true

@@ -1,41 +1,33 @@
 -- Receipts, expenses and turns are written so that they read as the same.
-use Rattle.std.proofs.Common.{◌≡◌, ℕ, Bool, true, false, not, ◌&&◌, List, [], ◌∷◌, ◌++◌, map, codes, Option, Some, None, Result, Ok, Err, IfOk, refl, ap, ap₂, sym, ◌∙◌, slice_get}
+use Rattle.std.proofs.Common.{◌≡◌, ℕ, Bool, true, false, List, map, Option, Some, None, Ok, IfOk, refl, ap, sym, ◌∙◌, slice_get}
 use Rattle.std.proofs.lemmas.Bool.{and_from, and_parts}
-use Rattle.std.specs.Bool.{⊤}
-use Rattle.std.specs.List.{AllZip, list_all}
-use Rattle.reg_base.specs.Codes.{is_code}
-use Rattle.reg_base.specs.Results.{◌>>=◌, unless}
+use Rattle.std.specs.List.{list_all}
 use Rattle.cfg_model.specs.declared.config.Config.{Config}
 use Rattle.cfg_model.specs.declared.kind.Kind.{Kind}
-use Rattle.cfg_model.specs.declared.ledger.Chart.{Chart}
 use Rattle.cfg_model.specs.declared.register.Register.{Register}
-use Rattle.cfg_model.specs.declared.register.Resource.{Resource}
 use Rattle.rule_text.specs.declared.plain.PlainAct.{PlainAct}
-use Rattle.rule_text.specs.declared.plain.PlainAct.TheVariants.{Make as PlainMake, WriteOff as PlainWriteOff, Require as PlainRequire, Control as PlainControl, Entry as PlainEntry}
+use Rattle.rule_text.specs.declared.plain.PlainAct.TheVariants.{Make as PlainMake}
 use Rattle.rule_text.specs.declared.plain.PlainAmount.{PlainAmount}
 use Rattle.rule_text.specs.declared.plain.PlainBind.{PlainBind}
-use Rattle.rule_text.specs.declared.plain.PlainSide.{PlainSide}
-use Rattle.rule_text.specs.declared.plain.PlainSides.{PlainSides}
-use Rattle.rule_text.specs.declared.plain.PlainTerm.{PlainTerm}
 use Rattle.rule_text.specs.declared.plain.Scope.{Scope}
 use Rattle.rule_text.specs.declared.plain.Scope.TheVariants.{Once, EachLine}
 use Rattle.rule_text.specs.declared.plain.Target.{Target}
 use Rattle.rule_text.specs.declared.plain.Verb.{Verb}
 use Rattle.rule_text.specs.declared.plain.Verb.TheVariants.{Receipt, Expense, Turn}
 use Rattle.rule_text.specs.declared.token.Spelling.{Spelling}
-use Rattle.rule_text.proofs.PlainTexts.{spelling_text, binds_text as plain_binds_text, amounts_text as plain_amounts_text, verb_text as plain_verb_text, order_text as plain_order_text, act_text as plain_act_text, scope_text as plain_scope_text, is_small, is_named, bind_fits, target_fits, amount_fits, act_fits}
-use Rattle.rule_text.proofs.ReadTests.{spelling_read, bind_read, target_read, amount_read, amounts_read, terms_read, act_read}
+use Rattle.rule_text.proofs.PlainTexts.{spelling_text, verb_text as plain_verb_text, act_text as plain_act_text, scope_text as plain_scope_text, is_small, act_fits}
+use Rattle.rule_text.proofs.ReadTests.{spelling_read, bind_read, target_read, amounts_read}
 use Rattle.rule_lang.specs.Acts.{act_of}
-use Rattle.rule_lang.specs.Binds.{bind_of, amount_of, all_bound, none_twice}
+use Rattle.rule_lang.specs.Binds.{bind_of, amount_of}
 use Rattle.rule_lang.specs.Fields.{place_of}
 use Rattle.rule_lang.specs.Least.{Checked, both, beside, each}
-use Rattle.rule_lang.specs.Makes.{suits, make_fits, make_act, made, make_of}
+use Rattle.rule_lang.specs.Makes.{make_fits, make_act, made, make_of}
 use Rattle.rule_lang.specs.Rules.{is_control}
-use Rattle.rule_lang.specs.RuleTexts.{binds_text, amounts_text, verb_text, order_text, make_text, act_text, scope_text}
-use Rattle.rule_lang.specs.TermTexts.{text_if, name_at}
-use Rattle.rule_lang.specs.declared.fault.RuleWhy.TheVariants.{UnknownName, Unbound, TwiceBound, WrongRegister}
+use Rattle.rule_lang.specs.RuleTexts.{verb_text, make_text, act_text, scope_text}
+use Rattle.rule_lang.specs.TermTexts.{text_if}
+use Rattle.rule_lang.specs.declared.fault.RuleWhy.TheVariants.{UnknownName}
 use Rattle.rule_lang.specs.declared.statement.Act.{Act}
-use Rattle.rule_lang.specs.declared.statement.Act.TheVariants.{Make, WriteOff, Require, Control, Entry}
+use Rattle.rule_lang.specs.declared.statement.Act.TheVariants.{Make}
 use Rattle.rule_lang.specs.declared.statement.Bind.{Bind}
 use Rattle.rule_lang.specs.declared.statement.Sum.{Sum}
 use Rattle.rule_lang.specs.declared.terms.Round.{Round}
@@ -113,9 +105,13 @@ made-same : (config : Config) (kind : Kind) (round : Round) (place : ℕ) (regis
     → act_of config kind round (PlainMake verb target (map (scaled_amount register) sums)) ≡ Ok (Make verb place parts.0 parts.1)
 unfolding act_of make_of made make_act
 made-same config kind round place register verb target sums parts found at is =
-    rw (found, at, make_fits-scaled verb register target.binds sums,
-    beside-Ok (make_fits verb register target.binds sums) (each (bind_of kind round register) target.binds) (each (amount_of kind round register) (map (scaled_amount register) sums)) parts.0 parts.1
-    is.fit is.bound is.are_sums.same) refl
+    rw (
+      found,
+      at,
+      make_fits-scaled verb register target.binds sums,
+      beside-Ok (make_fits verb register target.binds sums) (each (bind_of kind round register) target.binds) (each (amount_of kind round register) (map (scaled_amount register) sums)) parts.0 parts.1
+          is.fit is.bound is.are_sums.same,
+    ) refl
 
 pub make-written : (config : Config) (kind : Kind) (round : Round) (verb : Verb) (target : Target) (sums : List PlainAmount)
     → target_read target ≡ true → amounts_read sums ≡ true
@@ -143,4 +139,5 @@ make-written config kind round verb target sums target_is sums_are =
       same = made-same config kind round place r verb target sums p h.0 at is;
       fits = and_from _ _ (and_from _ _ h.1.named is.are_binds.fits) is.are_sums.fits;
       is = refl;
-      scope = make-scope verb place p.0 p.1 })))
+      scope = make-scope verb place p.0 p.1;
+    })))

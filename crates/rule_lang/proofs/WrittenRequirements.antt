@@ -1,9 +1,8 @@
 -- Requirements and controls are written so that they read as the same.
-use Rattle.std.proofs.Common.{◌≡◌, ℕ, Bool, true, false, not, ◌&&◌, List, ◌++◌, codes, Option, Some, None, option_map, Result, Ok, Err, IfOk, refl, ap, ◌∙◌, slice_get}
+use Rattle.std.proofs.Common.{◌≡◌, ℕ, Bool, true, false, List, Some, Ok, IfOk, refl, slice_get}
 use Rattle.std.proofs.lemmas.Bool.{and_from, and_parts}
 use Rattle.std.specs.List.{list_all}
 use Rattle.reg_base.specs.Codes.{is_code}
-use Rattle.reg_base.specs.Results.{◌>>=◌, unless}
 use Rattle.cfg_model.specs.declared.config.Config.{Config}
 use Rattle.cfg_model.specs.declared.kind.Kind.{Kind}
 use Rattle.cfg_model.specs.declared.register.Register.{Register}
@@ -20,9 +19,8 @@ use Rattle.rule_lang.specs.Binds.{bind_of}
 use Rattle.rule_lang.specs.Fields.{place_of}
 use Rattle.rule_lang.specs.Least.{Checked, both, beside, each}
 use Rattle.rule_lang.specs.Requirements.{require_fits, require_act, required, require_of, control_of}
-use Rattle.rule_lang.specs.RuleTexts.{resource_scale, require_text, control_text, act_text, scope_text}
+use Rattle.rule_lang.specs.RuleTexts.{require_text, control_text, act_text, scope_text}
 use Rattle.rule_lang.specs.Terms.{sum_of}
-use Rattle.rule_lang.specs.TermTexts.{terms_text}
 use Rattle.rule_lang.specs.declared.fault.RuleWhy.TheVariants.{UnknownName, WrongRegister}
 use Rattle.rule_lang.specs.declared.statement.Act.TheVariants.{Require, Control}
 use Rattle.rule_lang.specs.declared.statement.Bind.{Bind}
@@ -58,8 +56,14 @@ required-text : (config : Config) (kind : Kind) (round : Round) (place : ℕ) (r
     → act_text config kind (Require place parts.0 at parts.1 code) ≡ plain_act_text (PlainRequire target word (scaled_terms resource.scale least) code)
 unfolding act_text require_text plain_act_text
 required-text config kind round place register target word least code at resource parts written found is =
-    rw (found, is.are_binds.text, is.word_named.name, is.there, is.is_sum.text,
-    named (λ (r : Register). r.name) config.registers target.register place register written found) refl
+    rw (
+      found,
+      is.are_binds.text,
+      is.word_named.name,
+      is.there,
+      is.is_sum.text,
+      named (λ (r : Register). r.name) config.registers target.register place register written found,
+    ) refl
 
 required-same : (config : Config) (kind : Kind) (round : Round) (place : ℕ) (register : Register) (target : Target) (word : Spelling) (least : List PlainTerm) (code : List ℕ) (at : ℕ) (resource : Resource)
     (parts : List Bind × Sum)
@@ -68,9 +72,14 @@ required-same : (config : Config) (kind : Kind) (round : Round) (place : ℕ) (r
     → act_of config kind round (PlainRequire target word (scaled_terms resource.scale least) code) ≡ Ok (Require place parts.0 at parts.1 code)
 unfolding act_of require_of required require_act
 required-same config kind round place register target word least code at resource parts found register_at is =
-    rw (found, register_at, is.word_at, is.there,
-    beside-Ok (require_fits register target.binds) (each (bind_of kind round register) target.binds) (sum_of kind round (Some resource.scale) (scaled_terms resource.scale least)) parts.0 parts.1
-    is.fit is.bound is.is_sum.same) refl
+    rw (
+      found,
+      register_at,
+      is.word_at,
+      is.there,
+      beside-Ok (require_fits register target.binds) (each (bind_of kind round register) target.binds) (sum_of kind round (Some resource.scale) (scaled_terms resource.scale least)) parts.0 parts.1
+          is.fit is.bound is.is_sum.same,
+    ) refl
 
 pub require-written : (config : Config) (kind : Kind) (round : Round) (target : Target) (word : Spelling) (least : List PlainTerm) (code : List ℕ)
     → target_read target ≡ true → spelling_read word ≡ true → terms_read least ≡ true → is_code code ≡ true
@@ -97,14 +106,15 @@ require-written config kind round target word least code target_is word_is least
     (IfOk-self bs (AreBinds kind r target.binds) (binds-written kind round r target.binds reads.1)) (sum_of-scaled kind round s.scale least least_is)))
     (λ p g.
     let is : IsRequired kind round r target.binds word least at s p =
-      record { word_at = f.0; word_named = f.1; there = there; fit = g.0; bound = g.1.0.0; are_binds = g.1.0.1; is_sum = g.1.1 } in
+    record { word_at = f.0; word_named = f.1; there = there; fit = g.0; bound = g.1.0.0; are_binds = g.1.0.1; is_sum = g.1.1 } in
     record {
       written = PlainRequire target word (scaled_terms s.scale least) code;
       text = required-text config kind round place r target word least code at s p h.1 register_at is;
       same = required-same config kind round place r target word least code at s p h.0 register_at is;
       fits = and_from _ _ (and_from _ _ h.1.named is.are_binds.fits) (and_from _ _ f.1.named (and_from _ _ is.is_sum.fits code_is));
       is = refl;
-      scope = require-scope place p.0 at p.1 code })))))
+      scope = require-scope place p.0 at p.1 code;
+    })))))
 
 control-scope : (place at : ℕ) (each : Bool) → scope_text each (Control place at) ≡ plain_scope_text (written_scope true each)
 unfolding scope_text
@@ -143,5 +153,6 @@ control-written config kind round word resource word_is resource_is =
       same = h.0;
       fits = and_from _ _ h.1.1 h.1.2;
       is = refl;
-      scope = h.1.3 })
+      scope = h.1.3;
+    })
     (IfOk-self (control_of config word resource) _ (control-found config kind word resource word_is resource_is))

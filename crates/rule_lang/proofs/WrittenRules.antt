@@ -1,23 +1,22 @@
 -- Statements are written so that they read as the same.
-use Rattle.std.proofs.Common.{◌≡◌, ℕ, ◌+◌, Bool, true, false, not, ◌&&◌, ◌||◌, List, [], ◌∷◌, ◌++◌, length, codes, Option, Some, None, is_some, Result, Ok, Err, IfOk, refl, ap, ap₂, sym, ◌∙◌}
+use Rattle.std.proofs.Common.{◌≡◌, ℕ, ◌+◌, Bool, true, false, not, ◌||◌, List, [], ◌∷◌, ◌++◌, codes, Option, Some, None, is_some, Ok, IfOk, refl, ap, ap₂, ◌∙◌}
 use Rattle.std.proofs.lemmas.Bool.{and_from, and_parts}
 use Rattle.std.specs.List.{list_all}
-use Rattle.reg_base.specs.Results.{◌>>=◌, unless}
+use Rattle.reg_base.specs.Results.{unless}
 use Rattle.cfg_model.specs.declared.config.Config.{Config}
 use Rattle.cfg_model.specs.declared.kind.Kind.{Kind}
-use Rattle.rule_text.specs.declared.plain.PlainAct.{PlainAct}
 use Rattle.rule_text.specs.declared.plain.PlainCond.{PlainCond}
 use Rattle.rule_text.specs.declared.plain.PlainStatement.{PlainStatement}
 use Rattle.rule_text.specs.declared.plain.Scope.{Scope}
 use Rattle.rule_text.specs.declared.plain.Scope.TheVariants.{Once, EachLine}
-use Rattle.rule_text.proofs.PlainTexts.{scope_text as plain_scope_text, act_text as plain_act_text, when_text as plain_when_text, statement_text as plain_statement_text, statements_text as plain_statements_text, placed, is_small, act_fits, when_fits, statement_fits}
+use Rattle.rule_text.proofs.PlainTexts.{scope_text as plain_scope_text, when_text as plain_when_text, statement_text as plain_statement_text, statements_text as plain_statements_text, placed, is_small, when_fits, statement_fits}
 use Rattle.rule_text.proofs.ReadTests.{act_read, when_read, statement_read}
 use Rattle.rule_lang.specs.Acts.{act_of}
 use Rattle.rule_lang.specs.Conditions.{cond_of}
 use Rattle.rule_lang.specs.Costs.{is_each, round_of, costs_after}
 use Rattle.rule_lang.specs.Least.{Checked, both, beside}
 use Rattle.rule_lang.specs.Rules.{is_control, scope_fits, when_of, last_fits, finished, statement_in, statement_of, fault_at, statements_from}
-use Rattle.rule_lang.specs.RuleTexts.{scope_text, act_text, statement_text, cost_of, statements_text}
+use Rattle.rule_lang.specs.RuleTexts.{statement_text, cost_of, statements_text}
 use Rattle.rule_lang.specs.TermTexts.{when_text}
 use Rattle.rule_lang.specs.declared.costs.Costs.{Costs}
 use Rattle.rule_lang.specs.declared.fault.RuleWhy.TheVariants.{WrongScope}
@@ -50,7 +49,8 @@ when_of-written kind round (Some plain) read =
       text = ap (λ t. codes " when " ++ t) is.text;
       same = rw is.same refl;
       fits = is.fits;
-      is = refl })
+      is = refl;
+    })
 
 -- a scope that is written is that of the statement
 scope-kept : (control : Bool) (scope : Option Scope) (when : Bool) → (not control || not (is_some scope || when)) ≡ true
@@ -110,9 +110,12 @@ unfolding statement_of statement_in finished scope_fits
 found-same config kind costs before plain parts is place =
     let control = is_control plain.act in
     let fit : unless (not (is_control is.act.written) || not (is_some (written_scope control (is_each plain.scope)) || is_some is.when.written)) WrongScope ≡ Ok tt =
-      rw (is.act.is, is.when.is) (scope-Ok _ (scope-fits control plain.scope (is_each plain.scope) (is_some plain.when) is.suits)) in
-    rw (round-same costs (written_scope control (is_each plain.scope)) plain.scope (scope-kept control plain.scope (is_some plain.when) is.suits),
-    beside-Ok _ _ _ parts.0 parts.1 fit is.act.same is.when.same, is.last) refl
+    rw (is.act.is, is.when.is) (scope-Ok _ (scope-fits control plain.scope (is_each plain.scope) (is_some plain.when) is.suits)) in
+    rw (
+      round-same costs (written_scope control (is_each plain.scope)) plain.scope (scope-kept control plain.scope (is_some plain.when) is.suits),
+      beside-Ok _ _ _ parts.0 parts.1 fit is.act.same is.when.same,
+      is.last,
+    ) refl
 
 found-text : (config : Config) (kind : Kind) (costs : Costs) (before place : ℕ) (plain : PlainStatement) (parts : Act × Option Cond)
     → (is : IsFound config kind (round_of costs plain.scope) before plain parts)
@@ -144,7 +147,8 @@ statement_of-written config kind costs before plain read =
       written = record { place = 0; scope = written_scope (is_control plain.act) (is_each plain.scope); act = is.act.written; when = is.when.written };
       text = found-text config kind costs before 0 plain p is;
       same = found-same config kind costs before plain p is;
-      fits = and_from _ _ is.act.fits is.when.fits }))
+      fits = and_from _ _ is.act.fits is.when.fits;
+    }))
 
 -- statements are written so that they read as the same, wherever their text begins
 pub record AreWritten (config : Config) (kind : Kind) (costs : Costs) (before : ℕ) (statements : List Statement) : Type 0 where
@@ -162,7 +166,8 @@ first-written config kind costs before statement statements first others = recor
   written = first.written ∷ others.written;
   text = ap₂ ◌++◌ first.text others.text;
   same = λ place. rw (first.same place, others.same _) refl;
-  fits = and_from _ _ first.fits others.fits }
+  fits = and_from _ _ first.fits others.fits;
+}
 
 pub statements_from-written : (config : Config) (kind : Kind) (costs : Costs) (before : ℕ) (plains : List PlainStatement) → list_all statement_read plains ≡ true
     → IfOk (statements_from config kind costs before plains) (AreWritten config kind costs before)

@@ -1,8 +1,7 @@
 -- Write-offs are written so that they read as the same.
-use Rattle.std.proofs.Common.{◌≡◌, ℕ, Bool, true, false, not, ◌&&◌, List, ◌++◌, codes, Option, Some, None, Result, Ok, Err, IfOk, refl, slice_get}
+use Rattle.std.proofs.Common.{◌≡◌, ℕ, Bool, true, false, List, Some, Ok, IfOk, refl, slice_get}
 use Rattle.std.proofs.lemmas.Bool.{and_from, and_parts}
 use Rattle.std.specs.List.{list_all}
-use Rattle.reg_base.specs.Results.{◌>>=◌}
 use Rattle.cfg_model.specs.declared.config.Config.{Config}
 use Rattle.cfg_model.specs.declared.kind.Kind.{Kind}
 use Rattle.cfg_model.specs.declared.register.Register.{Register}
@@ -58,8 +57,14 @@ written_off-text : (config : Config) (kind : Kind) (round : Round) (place : ℕ)
     → act_text config kind (WriteOff fifo place parts.0 parts.1.0 parts.1.1 amount) ≡ plain_act_text (PlainWriteOff fifo target (scaled_amount register wanted) cost)
 unfolding act_text write_off_text plain_act_text
 written_off-text config kind round place register fifo target wanted cost amount parts written at is =
-    rw (at, order-same fifo, is.are_binds.text, is.is_sum.text, is.cost_named.name,
-    named (λ (r : Register). r.name) config.registers target.register place register written at) refl
+    rw (
+      at,
+      order-same fifo,
+      is.are_binds.text,
+      is.is_sum.text,
+      is.cost_named.name,
+      named (λ (r : Register). r.name) config.registers target.register place register written at,
+    ) refl
 
 written_off-same : (config : Config) (kind : Kind) (round : Round) (place : ℕ) (register : Register) (fifo : Bool) (target : Target) (wanted : PlainAmount) (cost : Spelling) (amount : ℕ)
     (parts : List Bind × (ℕ × Sum))
@@ -68,9 +73,13 @@ written_off-same : (config : Config) (kind : Kind) (round : Round) (place : ℕ)
     → act_of config kind round (PlainWriteOff fifo target (scaled_amount register wanted) cost) ≡ Ok (WriteOff fifo place parts.0 parts.1.0 parts.1.1 amount)
 unfolding act_of write_off_of written_off write_off_act
 written_off-same config kind round place register fifo target wanted cost amount parts found at is =
-    rw (found, at, is.cost_at,
-    beside-Ok (write_off_fits fifo register target.binds wanted.resource cost) (each (bind_of kind round register) target.binds) (amount_of kind round register (scaled_amount register wanted)) parts.0 parts.1
-    is.fit is.bound is.is_sum.same) refl
+    rw (
+      found,
+      at,
+      is.cost_at,
+      beside-Ok (write_off_fits fifo register target.binds wanted.resource cost) (each (bind_of kind round register) target.binds) (amount_of kind round register (scaled_amount register wanted)) parts.0 parts.1
+          is.fit is.bound is.is_sum.same,
+    ) refl
 
 pub write_off-written : (config : Config) (kind : Kind) (round : Round) (fifo : Bool) (target : Target) (wanted : PlainAmount) (cost : Spelling)
     → target_read target ≡ true → amount_read wanted ≡ true → spelling_read cost ≡ true
@@ -96,11 +105,12 @@ write_off-written config kind round fifo target wanted cost target_is wanted_is 
     (IfOk-self bs (AreBinds kind r target.binds) (binds-written kind round r target.binds reads.1)) (amount_of-written kind round r wanted wanted_is)))
     (λ p g.
     let is : IsWrittenOff kind round r fifo target.binds wanted cost amount p =
-      record { cost_at = f.0; cost_named = f.1; fit = g.0; bound = g.1.0.0; are_binds = g.1.0.1; is_sum = g.1.1 } in
+    record { cost_at = f.0; cost_named = f.1; fit = g.0; bound = g.1.0.0; are_binds = g.1.0.1; is_sum = g.1.1 } in
     record {
       written = PlainWriteOff fifo target (scaled_amount r wanted) cost;
       text = written_off-text config kind round place r fifo target wanted cost amount p h.1 at is;
       same = written_off-same config kind round place r fifo target wanted cost amount p h.0 at is;
       fits = and_from _ _ (and_from _ _ h.1.named is.are_binds.fits) (and_from _ _ is.is_sum.fits f.1.named);
       is = refl;
-      scope = write_off-scope fifo place p.0 p.1.0 p.1.1 amount }))))
+      scope = write_off-scope fifo place p.0 p.1.0 p.1.1 amount;
+    }))))

@@ -1,5 +1,5 @@
 -- Two lists whose elements stand to each other as what is written does to what is meant.
-use Rattle.std.proofs.Common.{◌≡◌, ℕ, Bool, true, false, not, ◌&&◌, ◌||◌, List, [], ◌∷◌, ◌++◌, map, Ok, Err, IfOk, refl, ap, ap₂, ◌∙◌}
+use Rattle.std.proofs.Common.{◌≡◌, ℕ, Bool, true, not, ◌&&◌, ◌||◌, List, [], ◌∷◌, ◌++◌, map, Ok, Err, IfOk, refl, ap, ap₂, ◌∙◌}
 use Rattle.std.specs.List.{AllZip, list_all, list_any, flat_map}
 use Rattle.std.proofs.lemmas.Bool.{and_from, and_parts}
 use Rattle.rule_text.specs.declared.token.Spelling.{Spelling}

@@ -12,8 +12,12 @@ with_rules kind text = record { name = kind.name; head = kind.head; lines = kind
 -- the configuration with these types in the place of its own
 abbrev pub with_kinds : Config → List Kind → Config
 with_kinds config kinds = record {
-  registers = config.registers; ledgers = config.ledgers; kinds = kinds;
-  sequences = config.sequences; clerks = config.clerks }
+  registers = config.registers;
+  ledgers = config.ledgers;
+  kinds = kinds;
+  sequences = config.sequences;
+  clerks = config.clerks;
+}
 
 -- types from this place on, each with the canonical text of its statements in the place of its own
 abbrev pub printed_from : Config → ℕ → List Kind → List (List Statement) → List Kind

@@ -14,7 +14,6 @@ use Rattle.rule_lang.specs.declared.statement.Act.TheVariants.{Make, WriteOff, R
 use Rattle.rule_lang.specs.declared.statement.Bind.{Bind}
 use Rattle.rule_lang.specs.declared.statement.BindTo.{BindTo}
 use Rattle.rule_lang.specs.declared.statement.BindTo.TheVariants.{Code, Point}
-use Rattle.rule_lang.specs.declared.statement.CodeTerm.{CodeTerm}
 use Rattle.rule_lang.specs.declared.statement.Place.{Place}
 use Rattle.rule_lang.specs.declared.statement.Statement.{Statement}
 use Rattle.rule_lang.specs.declared.statement.Sum.{Sum}

@@ -1,5 +1,5 @@
 -- The canonical text of codes, sums and conditions.
-use Rattle.std.specs.Prelude.{ℕ, ℤ, codes, Bool, true, false, if◌then◌else◌, List, [], ◌∷◌, ◌++◌, Option, Some, None, option_map, option_and_then, slice_get}
+use Rattle.std.specs.Prelude.{ℕ, ℤ, codes, Bool, true, false, if◌then◌else◌, List, [], ◌∷◌, ◌++◌, Option, Some, None, option_and_then, slice_get}
 use Rattle.std.specs.List.{flat_map}
 use Rattle.reg_base.specs.Numbers.{sum_text}
 use Rattle.cfg_model.specs.declared.kind.Field.{Field}
@@ -12,7 +12,6 @@ use Rattle.rule_lang.specs.declared.statement.Cond.{Cond}
 use Rattle.rule_lang.specs.declared.statement.Cond.TheVariants.{Sums, Codes}
 use Rattle.rule_lang.specs.declared.statement.Part.{Part}
 use Rattle.rule_lang.specs.declared.statement.Part.TheVariants.{Number, Head, Line, Total, Cost}
-use Rattle.rule_lang.specs.declared.statement.Sum.{Sum}
 use Rattle.rule_lang.specs.declared.statement.Term.{Term}
 
 -- the text of what is found, and none where there is nothing

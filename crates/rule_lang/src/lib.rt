@@ -8,9 +8,10 @@
 //!
 //! Promises: `Rules::read` gives exactly the rules of a configuration, or their first fault. Each
 //! place that an accepted statement names is there, with its sort and scale, and the statements of
-//! a type in a sequence keep it. `Rules::print` writes exactly the canonical text of a type.
+//! a type in a sequence keep it. `Rules::print` writes exactly the canonical text of a type, which
+//! is read back to the same statements.
 //!
-//! Leaves open: when memory is refused; that a printed text reads back is tested alone.
+//! Leaves open: when memory is refused.
 #![tactic(auto)]
 
 mod act_texts;
