@@ -7,7 +7,8 @@ use Rattle.rule_lang.specs.declared.statement.Statement.{Statement}
 
 -- the type with this text of rules in the place of its own
 abbrev pub with_rules : Kind → List ℕ → Kind
-with_rules kind text = record { name = kind.name; head = kind.head; lines = kind.lines; rules = text }
+with_rules kind text =
+    record { name = kind.name; head = kind.head; lines = kind.lines; rules = text }
 
 -- the configuration with these types in the place of its own
 abbrev pub with_kinds : Config → List Kind → Config
@@ -24,7 +25,8 @@ abbrev pub printed_from : Config → ℕ → List Kind → List (List Statement)
 printed_from config place [] rules = []
 printed_from config place (kind ∷ kinds) [] = kind ∷ kinds
 printed_from config place (kind ∷ kinds) (statements ∷ rules) =
-    with_rules kind (rules_text config place statements) ∷ printed_from config (place + 1) kinds rules
+    with_rules kind (rules_text config place statements)
+    ∷ printed_from config (place + 1) kinds rules
 
 -- the configuration with the canonical texts of these rules in the place of its own
 abbrev pub printed : Config → List (List Statement) → Config
