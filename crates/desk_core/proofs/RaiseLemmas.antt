@@ -1,32 +1,10 @@
 -- Sums raised in their place, one after another.
-use Rattle.std.proofs.Common.{◌≡◌, ℕ, zero, suc, ◌+◌, ◌<◌, ◌≤◌, ◌*◌, ◌^◌, ℤ, pos, ◌+ℤ◌, Bool, true, false, ◌||◌, ◌&&◌, cond, Option, None, Some, List, [], ◌∷◌, ◌++◌, map, length, refl, ap, ◌∙◌, sym, subst, arith, take, drop, get_or, length-append, append_assoc}
+use Rattle.std.proofs.Common.{◌≡◌, ℕ, zero, suc, ◌+◌, ◌<◌, ℤ, pos, Some, List, [], ◌∷◌, ◌++◌, map, length, refl, ap, ◌∙◌, sym, arith, take, drop, append_assoc}
 use Rattle.std.specs.Prelude.{slice_get, slice_set, unwrap_or}
-use Rattle.std.specs.Map.{lookup, set_value}
 use Rattle.std.proofs.lemmas.List.FromFn.{map-range_with_len_more, length-range_with_len, length-map-range_with_len}
-use Rattle.std.specs.Cmp.Lexicographic.{slice_cmp}
-use Rattle.std.specs.List.{All, list_any, filter, flat_map, range_with_len, AllByRecursion}
-use Rattle.std.specs.Ordering.{match_ordering, is_eq, ordering_reverse}
-use Rattle.std.specs.BTreeMap.{insert_entry}
-use Rattle.std.specs.declared.cmp.Ordering.{Ordering}
-use Rattle.std.specs.declared.cmp.Ordering.TheVariants.{Less, Equal, Greater}
-use Rattle.std.specs.declared.vec.Vec.{Vec}
-use Rattle.std.proofs.lemmas.Int.{ints}
-use Rattle.std.proofs.lemmas.List.{append-nil, map-append, length-map, length-take, take_more}
-use Rattle.std.proofs.lemmas.List.Elements.{filter-append, All-take}
-use Rattle.std.proofs.lemmas.List.Sums.{length-filter, count_by-le-length}
-use Rattle.std.proofs.lemmas.Cmp.{tied_itself}
-use Rattle.reg_base.specs.declared.value.Value.{Value}
-use Rattle.reg_base.specs.declared.value.Value.TheVariants.{Code, Lot}
-use Rattle.reg_base.specs.contracts.value.ValueOrd.TheImpl.{ghosts}
-use Rattle.reg_base.specs.declared.records.Rec.{Rec}
-use Rattle.reg_base.specs.declared.records.SumRow.{SumRow}
-use Rattle.reg_base.specs.declared.records.Document.{Document}
-use Rattle.reg_base.specs.Records.{Booked, value_cmp, values_cmp, put_once, amount_at, is_posted, booked_by}
-use Rattle.reg_base.specs.Balances.{group_of, groups_of, total, share, is_shown, sum_rows}
-use Rattle.reg_base.proofs.OrderLemmas.{values_cmp_total, values_cmp_exact}
-use Rattle.reg_base.proofs.BalanceLemmas.{groups_of-push, total-push}
-use Rattle.desk_core.specs.Invariants.{HasShortSets}
-use Rattle.desk_core.specs.Rows.{booked, rows_of, sums_at, sum_at, IsWithin, all_rows, AddsUp, AreOfFew}
+use Rattle.std.specs.List.{range_with_len}
+use Rattle.std.proofs.lemmas.List.{length-map}
+use Rattle.desk_core.specs.Rows.{sum_at}
 
 set_mid : (front : List ℤ) (x v : ℤ) (rest : List ℤ) → slice_set (front ++ x ∷ rest) (length front) v ≡ front ++ v ∷ rest
 set_mid [] x v rest = refl
