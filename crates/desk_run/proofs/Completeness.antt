@@ -12,7 +12,7 @@ use Rattle.desk_core.specs.Answers.{answers}
 use Rattle.desk_core.specs.State.{first_desk}
 use Rattle.desk_run.specs.declared.fault.Fault.{Fault}
 use Rattle.desk_run.specs.declared.fault.Fault.TheVariants.{Usage, Configuration, Rules, Memory, Read, Write, File, FileTooLong, InputTooLong}
-use Rattle.desk_run.specs.declared.desk_main.TheConstants.{MOST_CONFIG_BYTES}
+use Rattle.desk_run.specs.declared.top_call.TheConstants.{MOST_CONFIG_BYTES}
 use Rattle.desk_run.specs.Runs.{Streams, AnswersAll}
 use Rattle.desk_run.specs.Statuses.{end_status, file_word}
 use Rattle.desk_run.specs.Ends.{ShelfState, IsRun, HasBytes, RunsFile, Ends, MayRun, Succeeds, first_opened}

@@ -15,7 +15,7 @@ use Rattle.desk_core.specs.Answers.{answers}
 use Rattle.desk_run.specs.declared.run.RunEnd.{RunEnd}
 use Rattle.desk_run.specs.declared.run.RunEnd.TheVariants.{Memory as RunMemory, Read as RunRead, Write as RunWrite, InputTooLong as RunTooLong}
 use Rattle.desk_run.specs.declared.run.TheConstants.{MOST_INPUT_BYTES}
-use Rattle.desk_run.specs.declared.desk_main.TheConstants.{MOST_CONFIG_BYTES}
+use Rattle.desk_run.specs.declared.top_call.TheConstants.{MOST_CONFIG_BYTES}
 use Rattle.desk_run.specs.declared.fault.Fault.{Fault}
 use Rattle.desk_run.specs.declared.fault.Fault.TheVariants.{Usage, Configuration, Rules, Memory, Read, Write, File, FileTooLong, InputTooLong}
 use Rattle.desk_run.specs.Runs.{Streams, Runs}

@@ -12,11 +12,11 @@
 #![tactic(auto)]
 
 mod complaint;
-mod desk_main;
 mod fault;
 mod run;
+mod top_call;
 
 pub use complaint::complain;
-pub use desk_main::{Finish, MOST_CONFIG_BYTES, desk_main};
 pub use fault::{Fault, end_status};
 pub use run::{MOST_INPUT_BYTES, RunEnd, run_lines};
+pub use top_call::{Finish, MOST_CONFIG_BYTES, desk_main};

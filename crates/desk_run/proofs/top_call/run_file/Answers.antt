@@ -1,6 +1,6 @@
 use Rattle.desk_run.proofs.RunLemmas.{is_fault}
 use Rattle.desk_run.proofs.CallEnds.{RunsFile-fault}
-use Rattle.desk_run.proofs.desk_main.run_file.Goals as goal
+use Rattle.desk_run.proofs.top_call.run_file.Goals as goal
 
 pub returns-in_err-run_config : goal.returns-in_err-run_config
 returns-in_err-run_config g c = record {

@@ -1,7 +1,7 @@
 use Rattle.std.proofs.Common.{inr, sym, ◌∙◌}
 use Rattle.std.specs.Prelude.{codes, string_bytes}
 use Rattle.desk_run.proofs.CallEnds.{two_of, word_is}
-use Rattle.desk_run.proofs.desk_main.run_words.Goals as goal
+use Rattle.desk_run.proofs.top_call.run_words.Goals as goal
 
 pub returns-in-len2 : goal.returns-in-len2
 returns-in-len2 g c = record {

@@ -1,7 +1,7 @@
 use Rattle.desk_core.proofs.LawLemmas.{BalancesHold-always}
 use Rattle.desk_run.proofs.CallEnds.{status-usage}
 use Rattle.desk_run.proofs.Completeness.{call_succeeds}
-use Rattle.desk_run.proofs.desk_main.desk_main.Goals as goal
+use Rattle.desk_run.proofs.top_call.desk_main.Goals as goal
 
 pub returns-clause-ends : goal.returns-clause-ends
 returns-clause-ends g c = record {

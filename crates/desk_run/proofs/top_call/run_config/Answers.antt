@@ -1,5 +1,5 @@
 use Rattle.desk_run.proofs.CallEnds.{RunsWith-opened}
-use Rattle.desk_run.proofs.desk_main.run_config.Goals as goal
+use Rattle.desk_run.proofs.top_call.run_config.Goals as goal
 
 pub returns : goal.returns
 returns g c = record {
