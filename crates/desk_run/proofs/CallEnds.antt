@@ -3,7 +3,6 @@ use Rattle.std.proofs.Common.{◌≡◌, ℕ, List, [], ◌∷◌, length, sym, 
 use Rattle.std.specs.Prelude.{Result, Ok, Err, ◌↔◌, ◌≢◌, ◌<◌, ◌≤◌, get_or, map, true, bytes_eq}
 use Rattle.std.proofs.lemmas.Slice.Eq.{bytes_eq-Decides}
 use Rattle.cfg_model.specs.declared.config.Config.{Config}
-use Rattle.cfg_model.specs.Reading.{read_config}
 use Rattle.desk_core.specs.Opened.{Opened}
 use Rattle.desk_run.specs.declared.run.RunEnd.{RunEnd}
 use Rattle.desk_run.specs.declared.run.RunEnd.TheVariants.{Memory as RunMemory, Read as RunRead, Write as RunWrite, InputTooLong as RunTooLong}

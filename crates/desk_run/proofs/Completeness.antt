@@ -12,10 +12,9 @@ use Rattle.desk_core.specs.Answers.{answers}
 use Rattle.desk_core.specs.State.{first_desk}
 use Rattle.desk_run.specs.declared.fault.Fault.{Fault}
 use Rattle.desk_run.specs.declared.fault.Fault.TheVariants.{Usage, Configuration, Rules, Memory, Read, Write, File, FileTooLong, InputTooLong}
-use Rattle.desk_run.specs.declared.top_call.TheConstants.{MOST_CONFIG_BYTES}
 use Rattle.desk_run.specs.Runs.{Streams, AnswersAll}
 use Rattle.desk_run.specs.Statuses.{end_status, file_word}
-use Rattle.desk_run.specs.Ends.{ShelfState, IsRun, HasBytes, RunsFile, Ends, MayRun, Succeeds, first_opened}
+use Rattle.desk_run.specs.Ends.{most_config_bytes, ShelfState, IsRun, HasBytes, RunsFile, Ends, MayRun, Succeeds, first_opened}
 
 -- two answers that are the same value
 ok_same : {T E : Type 0} (read : Result T E) (a b : T) → read ≡ Ok a → read ≡ Ok b → a ≡ b
@@ -34,7 +33,7 @@ same_bytes : (words : List (List ℕ)) (shelf shelf_now : ShelfState) (before no
 same_bytes words shelf shelf_now before now config input name bytes may is_run has =
     let same_name : may.name ≡ name = ap file_word (sym may.is_run ∙ is_run) in
     let told = rw may.files at has.told in
-    ok_same (file_read (file_named name may.all) MOST_CONFIG_BYTES) may.bytes bytes
+    ok_same (file_read (file_named name may.all) most_config_bytes) may.bytes bytes
     (rw same_name at may.read) told
 
 -- all of the input is answered
@@ -71,7 +70,7 @@ file_succeeds words shelf shelf_now before now config input name (Err File) may 
     absurd (may.file_calls run.0)
 file_succeeds words shelf shelf_now before now config input name (Err FileTooLong) may is_run run =
     let same_name : may.name ≡ name = ap file_word (sym may.is_run ∙ is_run) in
-    absurd (not_both (file_read (file_named name may.all) MOST_CONFIG_BYTES) may.bytes TooLong
+    absurd (not_both (file_read (file_named name may.all) most_config_bytes) may.bytes TooLong
     (rw same_name at may.read) (rw may.files at run.0))
 file_succeeds words shelf shelf_now before now config input name (Err InputTooLong) may is_run run =
     let beyond = rw may.input_is at run.run.1.beyond in

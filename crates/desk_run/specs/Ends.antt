@@ -14,12 +14,14 @@ use Rattle.desk_core.specs.Opened.{Opened}
 use Rattle.desk_core.specs.Answers.{answers}
 use Rattle.desk_run.specs.declared.run.RunEnd.{RunEnd}
 use Rattle.desk_run.specs.declared.run.RunEnd.TheVariants.{Memory as RunMemory, Read as RunRead, Write as RunWrite, InputTooLong as RunTooLong}
-use Rattle.desk_run.specs.declared.run.TheConstants.{MOST_INPUT_BYTES}
-use Rattle.desk_run.specs.declared.top_call.TheConstants.{MOST_CONFIG_BYTES}
 use Rattle.desk_run.specs.declared.fault.Fault.{Fault}
 use Rattle.desk_run.specs.declared.fault.Fault.TheVariants.{Usage, Configuration, Rules, Memory, Read, Write, File, FileTooLong, InputTooLong}
-use Rattle.desk_run.specs.Runs.{Streams, Runs}
+use Rattle.desk_run.specs.Runs.{most_input_bytes, Streams, Runs}
 use Rattle.desk_run.specs.Statuses.{fault_line, line_is_made, end_status}
+
+-- the bytes of a configuration, at the most
+abbrev pub most_config_bytes : ℕ
+most_config_bytes = 1_048_576
 
 -- what a shelf shows at one moment: its files by name, and how many calls on it failed
 pub record ShelfState : Type 0 where
@@ -40,13 +42,13 @@ first_opened config = record { setting = record { config = config }; desk = firs
 
 -- the file of this name has these bytes, where the files are told, and not too many
 pub record HasBytes (files : Option (List (List ℕ × List ℕ))) (name bytes : List ℕ) : Type 0 where
-  pub told : IfSome files (λ all. file_read (file_named name all) MOST_CONFIG_BYTES ≡ Ok bytes)
-  pub within : length bytes ≤ MOST_CONFIG_BYTES
+  pub told : IfSome files (λ all. file_read (file_named name all) most_config_bytes ≡ Ok bytes)
+  pub within : length bytes ≤ most_config_bytes
 
 -- the file of this name has more bytes than a configuration may have, where the files are told
 abbrev pub IsLongFile : Option (List (List ℕ × List ℕ)) → List ℕ → Type 0
 IsLongFile files name = IfSome files (λ all. file_read
-    (file_named name all) MOST_CONFIG_BYTES ≡ Err TooLong)
+    (file_named name all) most_config_bytes ≡ Err TooLong)
 
 -- the file of this name is read, and this is what its bytes are read as
 pub record ReadsAs (files : Option (List (List ℕ × List ℕ))) (name : List ℕ) (read : List ℕ
@@ -149,10 +151,10 @@ pub record MayRun (words : List (List ℕ)) (shelf shelf_now : ShelfState) (befo
   pub all : List (List ℕ × List ℕ)
   pub files : shelf.files ≡ Some all
   pub bytes : List ℕ
-  pub read : file_read (file_named name all) MOST_CONFIG_BYTES ≡ Ok bytes
+  pub read : file_read (file_named name all) most_config_bytes ≡ Ok bytes
   pub accepted : IsAccepted bytes config
   pub input_is : before.left ≡ Some input
-  pub within : length input ≤ MOST_INPUT_BYTES
+  pub within : length input ≤ most_input_bytes
   pub file_calls : ¬ Rose shelf.faults shelf_now.faults
   pub reads : ¬ Rose before.read_faults now.read_faults
   pub writes : ¬ Rose before.write_faults now.write_faults

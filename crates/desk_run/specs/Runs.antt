@@ -8,7 +8,10 @@ use Rattle.desk_core.specs.Opened.{Opened}
 use Rattle.desk_core.specs.Answers.{answers_to, desk_after}
 use Rattle.desk_run.specs.declared.run.RunEnd.{RunEnd}
 use Rattle.desk_run.specs.declared.run.RunEnd.TheVariants.{Memory, Read, Write, InputTooLong}
-use Rattle.desk_run.specs.declared.run.TheConstants.{MOST_INPUT_BYTES}
+
+-- the bytes of an input, at the most
+abbrev pub most_input_bytes : ℕ
+most_input_bytes = 4_294_967_296
 
 -- what an input and an output show at one moment: the bytes left to read, the bytes taken so far,
 -- and how many reads and writes failed
@@ -37,7 +40,7 @@ AreFirstLines lines input = IfSome input (λ bytes. (rest : List Line) ×
 pub record AnswersAll (opened after : Opened) (before now : Streams) : Type 0 where
   pub lines : List Line
   pub all : IfSome before.left (λ bytes. (lines_of bytes ≡ lines) ×
-      (length bytes ≤ MOST_INPUT_BYTES))
+      (length bytes ≤ most_input_bytes))
   pub at_end : IsAtEnd now.left
   pub out : WritesAnswers opened lines before now
   pub desk_is : after ≡ opened_after opened lines
@@ -47,7 +50,7 @@ pub record StopsAtRead (opened after : Opened) (before now : Streams) : Type 0 w
   pub bytes : List ℕ
   pub lines : List Line
   pub taken : Consumes before.left now.left bytes
-  pub within : length bytes ≤ MOST_INPUT_BYTES
+  pub within : length bytes ≤ most_input_bytes
   pub whole : OnSome before.left (whole_lines_of bytes ≡ lines)
   pub out : WritesAnswers opened lines before now
   pub desk_is : after ≡ opened_after opened lines
@@ -64,8 +67,8 @@ pub record StopsAtWrite (opened after : Opened) (before now : Streams) : Type 0 
 -- the input passes its limit, and the whole lines within the limit were answered
 pub record PassesLimit (opened after : Opened) (before now : Streams) : Type 0 where
   pub lines : List Line
-  pub beyond : IfSome before.left (λ bytes. (MOST_INPUT_BYTES < length bytes)
-      × (whole_lines_of (take MOST_INPUT_BYTES bytes) ≡ lines))
+  pub beyond : IfSome before.left (λ bytes. (most_input_bytes < length bytes)
+      × (whole_lines_of (take most_input_bytes bytes) ≡ lines))
   pub out : WritesAnswers opened lines before now
   pub desk_is : after ≡ opened_after opened lines
 

@@ -10,8 +10,7 @@ use Rattle.desk_core.specs.Opened.{Opened}
 use Rattle.desk_core.specs.Answers.{line_answer, line_desk, answers_to}
 use Rattle.desk_run.specs.declared.run.RunEnd.{RunEnd}
 use Rattle.desk_run.specs.declared.run.RunEnd.TheVariants.{Memory, Read, Write, InputTooLong}
-use Rattle.desk_run.specs.declared.run.TheConstants.{MOST_INPUT_BYTES}
-use Rattle.desk_run.specs.Runs.{opened_after}
+use Rattle.desk_run.specs.Runs.{most_input_bytes, opened_after}
 
 -- how a run ends at a fault of its lines
 abbrev pub end_of : LineFault → RunEnd
@@ -41,6 +40,6 @@ Answered old new line out_old out_new faults_old faults_new (Err InputTooLong) =
 pub record IsRunning (opened now : Opened) (first ahead_now : Option (List ℕ)) (room : ℕ)
     (ended : Bool) (out_first out_now : Option (List ℕ)) : Type 0 where
   pub lines : List Line
-  pub given : GaveLines first ahead_now MOST_INPUT_BYTES room ended lines
+  pub given : GaveLines first ahead_now most_input_bytes room ended lines
   pub out : Appends out_first out_now (answers_to opened.setting opened.desk lines)
   pub desk_is : now ≡ opened_after opened lines

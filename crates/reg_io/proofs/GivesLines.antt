@@ -6,7 +6,7 @@ use Rattle.std.proofs.KnownBytes.{Consumes-nil, Consumes-trans, Consumes-kept, K
 use Rattle.std.proofs.Math.Seq.{take-append-add}
 use Rattle.std.proofs.lemmas.Bool.{leb-true}
 use Rattle.reg_io.specs.Counts.{Rose}
-use Rattle.reg_io.specs.Lines.{RawLine, bytes_of, line_feed, line_of, text_of}
+use Rattle.reg_io.specs.Lines.{RawLine, bytes_of, line_feed, line_of, most_line_bytes, text_of}
 use Rattle.reg_io.specs.LineStates.{HasNoFeed, HasLineSize, GivesLine, NextLine, PassesRoom, StopsReading, ahead}
 use Rattle.reg_io.specs.Feeds.{EndsSkip, IsPart, ReadsMore, ReadsOn, Skips, TakesRaw, state_of}
 use Rattle.reg_io.specs.declared.feed.Feed.{Feed}
@@ -14,7 +14,6 @@ use Rattle.reg_io.specs.declared.line.Line.{Line}
 use Rattle.reg_io.specs.declared.line.Line.TheVariants.{Text, TooLong}
 use Rattle.reg_io.specs.declared.line.LineFault.{LineFault}
 use Rattle.reg_io.specs.declared.line.LineFault.TheVariants.{Read, InputTooLong, Memory}
-use Rattle.reg_io.specs.declared.line.TheConstants.{MOST_LINE_BYTES}
 use Rattle.reg_io.proofs.FirstFeeds.{HasNoFeed-append}
 use borrow.Author.Tests.{leb-false, lt-leb}
 
@@ -27,19 +26,19 @@ length_text : (content : List ℕ) (ended : Bool)
 length_text content true = length_shorter _ (length content - 1) content
 length_text content false = omega arith
 
-size_by : (raw : RawLine) (short : Bool) → nat_le (length raw.content) MOST_LINE_BYTES ≡ short
+size_by : (raw : RawLine) (short : Bool) → nat_le (length raw.content) most_line_bytes ≡ short
     → HasLineSize (if short then Text (text_of raw) else TooLong (length raw.content))
-size_by raw true e = let short = leb-true (length raw.content) MOST_LINE_BYTES e in
+size_by raw true e = let short = leb-true (length raw.content) most_line_bytes e in
     omega (arith, length_text raw.content raw.ended)
-size_by raw false e = leb-false (length raw.content) MOST_LINE_BYTES e
+size_by raw false e = leb-false (length raw.content) most_line_bytes e
 
 -- a line that is told has the size that its kind says
 HasLineSize-line_of : (raw : RawLine) → HasLineSize (line_of raw)
-HasLineSize-line_of raw = size_by raw (nat_le (length raw.content) MOST_LINE_BYTES) refl
+HasLineSize-line_of raw = size_by raw (nat_le (length raw.content) most_line_bytes) refl
 
-line_of-long : (raw : RawLine) → MOST_LINE_BYTES < length raw.content
+line_of-long : (raw : RawLine) → most_line_bytes < length raw.content
     → line_of raw ≡ TooLong (length raw.content)
-line_of-long raw long = rw (lt-leb (length raw.content) MOST_LINE_BYTES long) refl
+line_of-long raw long = rw (lt-leb (length raw.content) most_line_bytes long) refl
 
 bytes_some : (content : List ℕ) (ended : Bool) → (ended ≡ false → content ≢ [])
     → 0 < length (bytes_of (record { content = content; ended = ended }))
@@ -147,7 +146,7 @@ bytes_of-behind skipped content false = refl
 -- a line whose first bytes were skipped is told with all of them
 GivesLine-skipped : {S : Type 0} (left : S → Option (List ℕ)) (old mid new : Feed S) (skipped : ℕ)
     (raw : RawLine) (line : Line)
-    → Skips left old mid skipped → MOST_LINE_BYTES < skipped → TakesRaw left mid new raw
+    → Skips left old mid skipped → most_line_bytes < skipped → TakesRaw left mid new raw
     → line ≡ TooLong (skipped + length raw.content)
     → GivesLine (ahead left (state_of old)) (ahead left (state_of new)) old.room new.room
     new.ended line
@@ -184,7 +183,7 @@ GivesLine-skipped left old mid new skipped raw line skips long takes told =
 -- a line that ends behind skipped bytes, or an input that is too long
 pub NextLine-skipped : {S : Type 0} (left : S → Option (List ℕ)) (faults : S → ℕ)
     (old mid new : Feed S) (skipped : ℕ) (result : Result (Option Line) LineFault)
-    → Skips left old mid skipped → MOST_LINE_BYTES < skipped → EndsSkip left mid new skipped result
+    → Skips left old mid skipped → most_line_bytes < skipped → EndsSkip left mid new skipped result
     → NextLine left faults (state_of old) (state_of new) result
 NextLine-skipped left faults old mid new skipped (Ok None) skips long ends = absurd ends
 NextLine-skipped left faults old mid new skipped (Ok (Some line)) skips long ends =

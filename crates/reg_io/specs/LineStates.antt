@@ -2,12 +2,11 @@
 use Rattle.std.specs.Prelude.{◌≡◌, ℕ, ◌+◌, ◌<◌, ◌≤◌, ◌≢◌, Bool, true, false, List, [], length, take, All, Option, None, Some, Result, Ok, Err}
 use Rattle.std.specs.Io.KnownBytes.{prepend_known, Consumes, Keeps, IsAtEnd}
 use Rattle.reg_io.specs.Counts.{Rose}
-use Rattle.reg_io.specs.Lines.{RawLine, bytes_of, line_of, line_feed}
+use Rattle.reg_io.specs.Lines.{RawLine, bytes_of, line_of, line_feed, most_line_bytes}
 use Rattle.reg_io.specs.declared.line.Line.{Line}
 use Rattle.reg_io.specs.declared.line.Line.TheVariants.{Text, TooLong}
 use Rattle.reg_io.specs.declared.line.LineFault.{LineFault}
 use Rattle.reg_io.specs.declared.line.LineFault.TheVariants.{Read, InputTooLong, Memory}
-use Rattle.reg_io.specs.declared.line.TheConstants.{MOST_LINE_BYTES}
 
 -- a reader of lines: its source, the bytes that were read and not yet given, how many bytes may
 -- still be given, whether the source told its end, and the fault that stays
@@ -28,8 +27,8 @@ HasNoFeed bytes = All (λ byte. byte ≢ line_feed) bytes
 
 -- a text has at most the bytes of a line, and a line that is too long has more
 abbrev pub HasLineSize : Line → Type 0
-HasLineSize (Text bytes) = length bytes ≤ MOST_LINE_BYTES
-HasLineSize (TooLong bytes) = MOST_LINE_BYTES < bytes
+HasLineSize (Text bytes) = length bytes ≤ most_line_bytes
+HasLineSize (TooLong bytes) = most_line_bytes < bytes
 
 -- a line without line feed is not empty, and comes where the source told its end
 pub record IsLast (line : RawLine) (now : Option (List ℕ)) (ended : Bool) : Type 0 where

@@ -2,7 +2,10 @@
 use Rattle.std.specs.Prelude.{ℕ, ◌-◌, ◌==◌, Bool, true, false, List, [], ◌∷◌, ◌++◌, length, take, slice_index, map, filter, nat_le, if◌then◌else◌}
 use Rattle.reg_io.specs.declared.line.Line.{Line}
 use Rattle.reg_io.specs.declared.line.Line.TheVariants.{Text, TooLong}
-use Rattle.reg_io.specs.declared.line.TheConstants.{MOST_LINE_BYTES}
+
+-- the bytes of a line that is told, at the most
+abbrev pub most_line_bytes : ℕ
+most_line_bytes = 1_048_576
 
 -- the byte of a line feed, and that of a carriage return
 abbrev pub line_feed : ℕ
@@ -47,7 +50,7 @@ text_of line = if line.ended then without_return line.content else line.content
 -- a line as it is told: its text, or its length where it is too long
 abbrev pub line_of : RawLine → Line
 line_of line =
-    if nat_le (length line.content) MOST_LINE_BYTES
+    if nat_le (length line.content) most_line_bytes
     then Text (text_of line)
     else TooLong (length line.content)
 
