@@ -1,16 +1,15 @@
 -- What is read as a date lies in 2000 to 2099; what is read as a point or a cut is one.
-use Rattle.std.proofs.Common.{◌≡◌, ℕ, ◌+◌, ◌-◌, ◌*◌, ◌^◌, ◌<◌, ◌≤◌, Bool, true, ◌&&◌, ◌==◌, nat_lt, nat_le, List, drop, take, length, slice_index, bytes_eq, codes, pos, IfOk, Result, Ok, Err, arith}
+use Rattle.std.proofs.Common.{ℕ, ◌+◌, ◌*◌, ◌^◌, ◌<◌, ◌≤◌, ◌&&◌, ◌==◌, nat_lt, nat_le, List, drop, take, length, slice_index, bytes_eq, codes, pos, IfOk, Ok, Err, arith}
 use Rattle.std.proofs.lemmas.Bool.Decides.{nat_tests}
 use Rattle.std.specs.List.{before_first, after_first}
 use Rattle.jiff_core.specs.Calendar.{day_count}
 use Rattle.jiff_core.proofs.SignedLemmas.{signed_arith}
 use Rattle.jiff_core.proofs.CalendarLemmas.{day_count-lt_year}
-use Rattle.reg_base.specs.declared.cut.Cut.{Cut}
 use Rattle.reg_base.specs.declared.cut.Cut.TheVariants.{Now, BeforeDate, ThroughDate, BeforePoint, ThroughPoint}
 use Rattle.reg_base.specs.declared.date.DateFault.TheVariants.{NotADate, OutOfYears}
 use Rattle.reg_base.specs.declared.day.Day.{Day}
 use Rattle.reg_base.specs.Numbers.{decimal_value}
-use Rattle.reg_base.specs.Dates.{number_at, day_spelt, second_spelt, has_day, days_before, date_of, parse_long_date, parse_date}
+use Rattle.reg_base.specs.Dates.{number_at, day_spelt, second_spelt, has_day, date_of, parse_long_date, parse_date}
 use Rattle.reg_base.specs.Results.{◌>>=◌, unless}
 use Rattle.reg_base.specs.Points.{IsPoint, is_whole_number, doc_number, parse_point}
 use Rattle.reg_base.specs.Cuts.{IsCut, has_byte, cut_before, cut_through, cut_by_word, cut_alone, parse_cut}

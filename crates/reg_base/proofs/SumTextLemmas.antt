@@ -1,7 +1,8 @@
 -- The text of a number at a scale is read back to the number.
-use Rattle.std.proofs.Common.{◌≡◌, ℕ, zero, suc, ◌+◌, ◌-◌, ◌*◌, ◌/◌, ◌^◌, ◌<◌, ◌≤◌, ◌==◌, Bool, true, false, ◌&&◌, nat_le, List, [], ◌∷◌, ◌++◌, length, get_or, take, drop, Ok, ℤ, pos, negsuc, unsigned_abs, refl, ap, sym, ◌∙◌, arith, rules, tests}
+use Rattle.std.proofs.Common.{◌≡◌, ℕ, zero, suc, ◌+◌, ◌-◌, ◌*◌, ◌/◌, ◌^◌, ◌<◌, ◌≤◌, ◌==◌, Bool, true, false, nat_le, List, [], ◌∷◌, ◌++◌, length, get_or, take, drop, Ok, ℤ, pos, negsuc, unsigned_abs, refl, ap, sym, ◌∙◌, arith, rules, tests}
 use Rattle.std.specs.List.{list_all, prefix_len, take_while}
 use Rattle.std.specs.Char.{is_ascii_digit}
+use Rattle.std.proofs.lemmas.Bool.{and_parts}
 use Rattle.std.proofs.lemmas.Bool.Decides.{nat_tests}
 use Rattle.std.proofs.lemmas.List.{length-append, append-nil, get_or-drop}
 use Rattle.std.proofs.lemmas.List.Sums.{fold-append}
@@ -10,25 +11,22 @@ use Rattle.reg_base.specs.Numbers.{largest_units, read_on, decimal_value, sign_l
 use Rattle.reg_base.proofs.DigitLemmas.{all_digits-last_digits, read_on-last_digits, length-last_digits}
 use Rattle.reg_base.proofs.PointTextLemmas.{all_digits-number_text, decimal_value-number_text, number_text-some}
 
-both_true : (a b : Bool) → (a && b) ≡ true → (a ≡ true) × (b ≡ true)
-both_true true b h = (refl, h)
-both_true false b h = (h, cc)
-
--- digits in front of something else are all that a walk over digits takes
-prefix_len-digits : (digits rest : List ℕ) → list_all is_ascii_digit digits ≡ true → is_ascii_digit (get_or rest 0 0) ≡ false → prefix_len is_ascii_digit (digits ++ rest) ≡ length digits
-prefix_len-digits [] [] all stop = refl
-prefix_len-digits [] (x ∷ rest) all stop = rw stop refl
-prefix_len-digits (x ∷ digits) rest all stop =
-    let parts = both_true (is_ascii_digit x) (list_all is_ascii_digit digits) all in
+-- elements that pass, in front of something else, are all that a walk takes
+pub prefix_len-all : (test : ℕ → Bool) (xs rest : List ℕ) → list_all test xs ≡ true
+    → test (get_or rest 0 0) ≡ false → prefix_len test (xs ++ rest) ≡ length xs
+prefix_len-all test [] [] all stop = refl
+prefix_len-all test [] (x ∷ rest) all stop = rw stop refl
+prefix_len-all test (x ∷ xs) rest all stop =
+    let parts = and_parts (test x) (list_all test xs) all in
     let first = parts.0 in
-    let more = prefix_len-digits digits rest parts.1 stop in
+    let more = prefix_len-all test xs rest parts.1 stop in
     rw first (omega arith)
 
 digits_from-stands : (text : List ℕ) (place : ℕ) (digits rest : List ℕ) → drop place text ≡ digits ++ rest → list_all is_ascii_digit digits ≡ true → 0 < length digits → is_ascii_digit (get_or rest 0 0) ≡ false → digits_from text place ≡ Ok digits
 unfolding digits_from
 digits_from-stands text place digits rest stands all some stop =
     let taken : take_while is_ascii_digit (digits ++ rest) ≡ digits =
-    ap (λ n. take n (digits ++ rest)) (prefix_len-digits digits rest all stop) ∙ take-append_seam digits rest in
+    ap (λ n. take n (digits ++ rest)) (prefix_len-all is_ascii_digit digits rest all stop) ∙ take-append_seam digits rest in
     let found : (length digits == 0) ≡ false = grind (arith, nat_tests) in
     rw (stands, taken, found)
 
@@ -115,7 +113,7 @@ not_minus x digit = grind (arith, nat_tests)
 sign_len-digits : (digits rest : List ℕ) → list_all is_ascii_digit digits ≡ true → 0 < length digits → sign_len (digits ++ rest) ≡ 0
 sign_len-digits [] rest all some = absurd (omega arith)
 sign_len-digits (x ∷ digits) rest all some =
-    rw (not_minus x (both_true (is_ascii_digit x) (list_all is_ascii_digit digits) all).0) refl
+    rw (not_minus x (and_parts (is_ascii_digit x) (list_all is_ascii_digit digits) all).0) refl
 
 sign_len-units : (n scale : ℕ) → n < 2 ^ 64 → sign_len (units_text n scale) ≡ 0
 unfolding units_text

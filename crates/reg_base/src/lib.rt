@@ -27,8 +27,6 @@ mod records;
 mod scale;
 mod short_text;
 mod sums;
-#[cfg(test)]
-mod tests;
 mod text;
 mod value;
 

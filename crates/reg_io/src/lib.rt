@@ -27,8 +27,6 @@ mod shelf;
 mod sink;
 mod source;
 mod standard;
-#[cfg(test)]
-mod tests;
 mod told_line;
 mod window;
 

@@ -22,3 +22,5 @@ mod sample_tests;
 mod syntax_rows;
 #[cfg(test)]
 mod tests;
+#[cfg(test)]
+mod text_tests;

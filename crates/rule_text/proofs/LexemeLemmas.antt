@@ -10,6 +10,7 @@ use Rattle.reg_base.specs.Codes.{is_code, is_code_byte, is_name, is_name_byte}
 use Rattle.reg_base.specs.Numbers.{largest_units, decimal_value, read_on, last_digits, number_text, units_text, sum_text}
 use Rattle.reg_base.proofs.DigitLemmas.{all_digits-last_digits, read_on-last_digits, length-last_digits}
 use Rattle.reg_base.proofs.PointTextLemmas.{all_digits-number_text, decimal_value-number_text, number_text-some}
+use Rattle.reg_base.proofs.SumTextLemmas.{prefix_len-all}
 use Rattle.rule_text.specs.Marks.{mark_text, double_mark, single_mark}
 use Rattle.rule_text.specs.Tokens.{is_blank, is_word_byte, lexeme, word_lexeme, number_lexeme, decimal_count, closed_code, quoted_lexeme, mark_lexeme, lexeme_of}
 use Rattle.rule_text.specs.declared.mark.Mark.{Mark}
@@ -18,17 +19,6 @@ use Rattle.rule_text.specs.declared.token.Spelling.TheVariants.{Named}
 use Rattle.rule_text.specs.declared.token.Token.{Token}
 use Rattle.rule_text.specs.declared.token.Token.TheVariants.{Word, Number, Quoted, Sign}
 use Rattle.rule_text.proofs.TextTokens.{tokens_at, tokens_at-token}
-
--- elements that pass, in front of something else, are all that a walk takes
-prefix_len-all : (test : ℕ → Bool) (xs rest : List ℕ) → list_all test xs ≡ true
-    → test (slice_index rest 0) ≡ false → prefix_len test (xs ++ rest) ≡ length xs
-prefix_len-all test [] [] all stop = refl
-prefix_len-all test [] (x ∷ rest) all stop = rw stop refl
-prefix_len-all test (x ∷ xs) rest all stop =
-    let parts = and_parts (test x) (list_all test xs) all in
-    let first = parts.0 in
-    let more = prefix_len-all test xs rest parts.1 stop in
-    rw first (omega arith)
 
 all_more : (test other : ℕ → Bool) → ((b : ℕ) → test b ≡ true → other b ≡ true) → (bs : List ℕ)
     → list_all test bs ≡ true → list_all other bs ≡ true

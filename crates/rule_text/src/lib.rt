@@ -18,8 +18,6 @@ mod piece;
 mod plain;
 mod sentences;
 mod sums;
-#[cfg(test)]
-mod tests;
 mod token;
 
 pub use fault::TextFault;

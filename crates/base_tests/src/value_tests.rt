@@ -1,5 +1,5 @@
 //! Tests over values from outside: spellings, and each call that allocates with ample memory.
-use crate::{Cut, Date, DateFault, Num, NumFault, Point, inside, print_sum, sum_string};
+use reg_base::{Cut, Date, DateFault, Num, NumFault, Point, inside, print_sum, sum_string};
 use std::test::Fail;
 
 fn date(text: &str) -> Result<Date, Fail> {

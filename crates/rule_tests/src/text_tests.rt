@@ -1,6 +1,6 @@
 //! Texts, each with how many statements it has or the place of its first fault.
-use crate::{TextFault, parse};
 use reg_base::Memory;
+use rule_text::{TextFault, parse};
 use std::alloc::Global;
 use std::test::Fail;
 

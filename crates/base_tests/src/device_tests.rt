@@ -1,12 +1,12 @@
 //! What no clause says, and rows from outside.
 ghost use Rattle.std.specs.Prelude.{◌≤◌, IfOk, OnErr, Some};
 
-use crate::{
+use reg_base::{List, Text};
+use reg_io::{
     Device, Disk, Failed, FailingCalls, FailingShelf, FailingSink, FailingSource, Folder, Line,
     LineFault, Lines, MemoryDisk, MemoryShelf, MemorySink, MemorySource, ReaderSource, Shelf,
     ShelfFault, Sink, SinkFault, Source, WriterSink, write_all,
 };
-use reg_base::{List, Text};
 use std::alloc::{AllocError, Global};
 use std::io::{Read, Write};
 use std::test::Fail;
