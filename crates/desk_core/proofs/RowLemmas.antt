@@ -18,7 +18,7 @@ use Rattle.reg_base.specs.contracts.value.ValueOrd.TheImpl.{ghosts}
 use Rattle.reg_base.specs.declared.records.SumRow.{SumRow}
 use Rattle.reg_base.specs.Records.{Booked, value_cmp, values_cmp, put_once, amount_at}
 use Rattle.reg_base.specs.Balances.{group_of, groups_of, total, share, is_shown, sum_rows}
-use Rattle.reg_base.proofs.OrderLemmas.{values_cmp_total, values_cmp_exact}
+use Rattle.reg_base.proofs.OrderLemmas.{derived-value_cmp, values_cmp_total, values_cmp_exact}
 use Rattle.reg_base.proofs.BalanceLemmas.{groups_of-push, total-push}
 use Rattle.desk_core.specs.Rows.{rows_of, sums_at, sum_at, IsWithin, all_rows, AddsUp, AreOfFew}
 
@@ -38,13 +38,6 @@ rows_of-insert_entry {A} {B} cmp same (e ∷ es) k v =
     at ih Less = refl
     at ih Equal = refl
     at ih Greater = ap (λ t. record { group = e.0.items; sums = e.1.items } ∷ t) ih
-
--- the order that the code derives is the order of values
-derived-value_cmp : (x y : Value) → ghosts.cmp x y ≡ value_cmp x y
-derived-value_cmp (Code a) (Code b) = refl
-derived-value_cmp (Code a) (Lot q) = refl
-derived-value_cmp (Lot p) (Code b) = refl
-derived-value_cmp (Lot p) (Lot q) = refl
 
 pub derived-values_cmp : (xs ys : List Value) → slice_cmp ghosts.cmp xs ys ≡ values_cmp xs ys
 derived-values_cmp xs ys = λ i. slice_cmp (λ x y. derived-value_cmp x y i) xs ys

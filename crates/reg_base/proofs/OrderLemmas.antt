@@ -10,8 +10,16 @@ use Rattle.std.specs.declared.cmp.Ordering.TheVariants.{Less, Equal, Greater}
 use Rattle.reg_base.specs.declared.point.Point.{Point}
 use Rattle.reg_base.specs.declared.value.Value.{Value}
 use Rattle.reg_base.specs.declared.value.Value.TheVariants.{Code, Lot}
+use Rattle.reg_base.specs.contracts.value.ValueOrd.TheImpl.{ghosts}
 use Rattle.reg_base.specs.Points.{point_cmp}
 use Rattle.reg_base.specs.Records.{value_cmp, values_cmp}
+
+-- the order that the code derives is the order of values
+pub derived-value_cmp : (x y : Value) → ghosts.cmp x y ≡ value_cmp x y
+derived-value_cmp (Code a) (Code b) = refl
+derived-value_cmp (Code a) (Lot q) = refl
+derived-value_cmp (Lot p) (Code b) = refl
+derived-value_cmp (Lot p) (Lot q) = refl
 
 pub point_cmp_total : IsTotalOrder point_cmp
 point_cmp_total = then_total (on_total (λ (p : Point). p.date) nat_cmp_total) (on_total (λ (p : Point). p.doc) nat_cmp_total)

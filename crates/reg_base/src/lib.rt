@@ -40,7 +40,8 @@ pub use name::Name;
 pub use num::{Num, NumFault};
 pub use point::Point;
 pub use read_back::{
-    cuts_read_back, dates_read_back, numbers_read_back, points_read_back, what_is_read_is_in_range,
+    cuts_read_back, dates_read_back, numbers_read_back, points_read_back, values_stand_in_order,
+    what_is_read_is_in_range,
 };
 pub use records::{
     Doc, DocRow, DocState, Document, Filter, Found, Item, Mark, Mode, Posting, Rec, Sets, Side,

@@ -4,8 +4,11 @@ ghost use Rattle.reg_base.specs.Numbers.{largest_units, parse_num, sum_text};
 ghost use Rattle.reg_base.specs.Dates.{parse_date, date_text};
 ghost use Rattle.reg_base.specs.declared.point.Point.{Point};
 ghost use Rattle.reg_base.specs.declared.cut.Cut.{Cut};
+ghost use Rattle.reg_base.specs.Records.{value_cmp};
 ghost use Rattle.reg_base.specs.Points.{IsPoint, parse_point, point_text};
 ghost use Rattle.reg_base.specs.Cuts.{IsCut, parse_cut, cut_text};
+
+use crate::value::Value;
 
 /// A law: the text of a number at a scale spells the number.
 pub fn numbers_read_back()
@@ -34,4 +37,9 @@ pub fn what_is_read_is_in_range()
     ensures dates { (text : List ℕ) → IfOk (parse_date text) (λ d. d < 3_155_760_000) }
     ensures points { (text : List ℕ) → IfOk (parse_point text) IsPoint }
     ensures cuts { (text : List ℕ) → IfOk (parse_cut text) IsCut }
+{}
+
+/// A law: values stand in the order that their type derives: codes by bytes, then lots by points.
+pub fn values_stand_in_order()
+    ensures { (x y : Value) → ⟦<Value as Ord>⟧.cmp x y ≡ value_cmp x y }
 {}

@@ -1,5 +1,5 @@
 //! The files of a folder.
-ghost use Rattle.std.specs.Prelude.{◌≡◌, ◌≤◌, IfOk, vec_len};
+ghost use Rattle.std.specs.Prelude.{◌≡◌, ◌≤◌, ◌+◌, ◌-◌, ◌^◌, IfOk, IfSome, min, take, vec_len};
 
 use crate::shelf::{Shelf, ShelfFault};
 use std::alloc::Global;
@@ -48,7 +48,15 @@ impl<R: Files> Shelf for Folder<'_, R> {
 // The bytes of a file, and of a longer one its first `most` and one more.
 fn read_up_to<R: Files>(files: &R, alloc: Global, name: &str, most: u64) -> io::Result<Vec<u8>> {
     let file = fs::open(files, name)?;
+    first_bytes(alloc, file, most)
+}
+
+// What a reader has left, and of more bytes the first `most` and one more.
+fn first_bytes<R: Read + Drop>(alloc: Global, reader: R, most: u64) -> io::Result<Vec<u8>>
+    ensures { IfOk result (λ bytes. IfSome (R.Read.remaining reader)
+        (λ left. bytes.items ≡ take (min (most + 1) (2 ^ 64 - 1)) left)) }
+{
     let mut bytes = Vec::new(alloc);
-    file.take(most.saturating_add(1)).read_to_end(&mut bytes)?;
+    reader.take(most.saturating_add(1)).read_to_end(&mut bytes)?;
     Ok(bytes)
 }

@@ -29,6 +29,8 @@ impl<R: Read> ReaderSource<R> {
 }
 
 impl<R: Read> Device for ReaderSource<R> {
+    ghost left = { λ s. R.remaining s.reader };
+
     ghost read_faults = { λ s. s.faults };
 }
 
@@ -68,6 +70,8 @@ impl<W: Write> WriterSink<W> {
 }
 
 impl<W: Write> Device for WriterSink<W> {
+    ghost taken = { λ s. W.contents s.writer };
+
     ghost write_faults = { λ s. s.faults };
 }
 

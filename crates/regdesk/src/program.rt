@@ -1,6 +1,7 @@
 //! What the program is asked, before the top call can be made.
-ghost use Rattle.std.specs.Prelude.{◌≡◌, ◌⊎◌, IfErr};
+ghost use Rattle.std.specs.Prelude.{◌≡◌, ◌⊎◌, [], IfErr, Err};
 ghost use Rattle.std.specs.Process.{exit_status};
+ghost use Rattle.desk_run.specs.Ends.{Complains};
 ghost use Rattle.desk_run.specs.Statuses.{status_of};
 
 use desk_run::{Fault, complain, end_status};
@@ -31,7 +32,9 @@ pub(crate) fn words_of<R: Env + AllocGlobal>(rt: &R) -> Result<Vec<String>, Faul
 
 /// Ends with the status of a fault, and its line.
 pub(crate) fn refuse<E: Sink>(alloc: Global, fault: Fault, err: &mut E) -> ExitCode
-    ensures { exit_status result ≡ status_of fault }
+    ensures status { exit_status result ≡ status_of fault }
+    ensures complains { Complains [] (Err fault) (E.taken err.old) (E.taken err.new)
+        (E.write_faults err.old) (E.write_faults err.new) }
 {
     let end = Err(fault);
     complain(alloc, &[], &end, err);
