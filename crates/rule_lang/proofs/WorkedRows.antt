@@ -12,7 +12,7 @@ use Rattle.rule_text.specs.Plain.{lone_field, equality_of}
 use Rattle.rule_text.specs.Sums.{field, owner, field_code, code, field_part, part, term, joint, next_term, sum}
 use Rattle.rule_text.specs.Binds.{bind_to, bind, next_bind, binds, target, amount, next_amount, amounts}
 use Rattle.rule_text.specs.Acts.{make, write_off, require, control, next_code, extra_codes, account_side, side, sides, entry, opening_of, act_of, verb, act}
-use Rattle.rule_text.specs.Conditions.{test_of, test, equality, text_cond, sums_cond, field_cond, sum_cond, cond, when}
+use Rattle.rule_text.specs.Conditions.{test_of, comparison, equality, text_cond, sums_cond, field_cond, sum_cond, cond, when}
 use Rattle.rule_text.specs.Sentences.{scope, statement, next_statement, statements, statements_of}
 use Rattle.rule_lang.specs.Least.{why_number, both, beside, each}
 use Rattle.rule_lang.specs.Fields.{place_of, field_of, number_field, code_field, units_at}
@@ -78,7 +78,7 @@ unfolding mark_text single_mark double_mark word_lexeme decimal_count number_lex
     ends many list_on list_of lone_field equality_of field owner field_code code field_part
     part term joint next_term sum bind_to bind next_bind binds target amount next_amount
     amounts make write_off require control next_code extra_codes account_side side sides entry
-    opening_of act_of verb act test_of test equality text_cond sums_cond field_cond sum_cond
+    opening_of act_of verb act test_of comparison equality text_cond sums_cond field_cond sum_cond
     cond when scope statement next_statement statements statements_of why_number both beside
     each place_of field_of number_field code_field units_at literal_at line_part cost_part
     part_of term_of sum_of line_code code_of scale_of_field scale_of_part first_scale
@@ -98,7 +98,7 @@ unfolding mark_text single_mark double_mark word_lexeme decimal_count number_lex
     ends many list_on list_of lone_field equality_of field owner field_code code field_part
     part term joint next_term sum bind_to bind next_bind binds target amount next_amount
     amounts make write_off require control next_code extra_codes account_side side sides entry
-    opening_of act_of verb act test_of test equality text_cond sums_cond field_cond sum_cond
+    opening_of act_of verb act test_of comparison equality text_cond sums_cond field_cond sum_cond
     cond when scope statement next_statement statements statements_of why_number both beside
     each place_of field_of number_field code_field units_at literal_at line_part cost_part
     part_of term_of sum_of line_code code_of scale_of_field scale_of_part first_scale
@@ -130,7 +130,7 @@ unfolding mark_text single_mark double_mark word_lexeme decimal_count number_lex
     ends many list_on list_of lone_field equality_of field owner field_code code field_part
     part term joint next_term sum bind_to bind next_bind binds target amount next_amount
     amounts make write_off require control next_code extra_codes account_side side sides entry
-    opening_of act_of verb act test_of test equality text_cond sums_cond field_cond sum_cond
+    opening_of act_of verb act test_of comparison equality text_cond sums_cond field_cond sum_cond
     cond when scope statement next_statement statements statements_of why_number both beside
     each place_of field_of number_field code_field units_at literal_at line_part cost_part
     part_of term_of sum_of line_code code_of scale_of_field scale_of_part first_scale
@@ -156,7 +156,7 @@ unfolding mark_text single_mark double_mark word_lexeme decimal_count number_lex
     ends many list_on list_of lone_field equality_of field owner field_code code field_part
     part term joint next_term sum bind_to bind next_bind binds target amount next_amount
     amounts make write_off require control next_code extra_codes account_side side sides entry
-    opening_of act_of verb act test_of test equality text_cond sums_cond field_cond sum_cond
+    opening_of act_of verb act test_of comparison equality text_cond sums_cond field_cond sum_cond
     cond when scope statement next_statement statements statements_of why_number both beside
     each place_of field_of number_field code_field units_at literal_at line_part cost_part
     part_of term_of sum_of line_code code_of scale_of_field scale_of_part first_scale

@@ -7,7 +7,7 @@ use Rattle.rule_text.specs.Marks.{mark_text}
 use Rattle.rule_text.specs.Plain.{code_of_part, lone_field, equality_of}
 use Rattle.rule_text.specs.Fronts.{code_of, break_of, is_mark_next, is_word_next}
 use Rattle.rule_text.specs.Sums.{sum}
-use Rattle.rule_text.specs.Conditions.{test_of, test, equality, text_cond, sums_cond, field_cond, compared, sum_cond, cond, when}
+use Rattle.rule_text.specs.Conditions.{test_of, comparison, equality, text_cond, sums_cond, field_cond, compared, sum_cond, cond, when}
 use Rattle.rule_text.specs.Tokens.{is_blank, lexeme}
 use Rattle.rule_text.specs.declared.mark.Mark.TheVariants.{Minus as MinusMark, Plus as PlusMark, Equal as EqualMark, Less as LessMark, AtMost as AtMostMark, AtLeast as AtLeastMark, Greater as GreaterMark, Differs as DiffersMark}
 use Rattle.rule_text.specs.declared.token.Token.{Token}
@@ -33,18 +33,18 @@ abbrev EndsTest : List ℕ → Type 0
 EndsTest rest = is_blank (slice_index rest 0) ≡ true
 
 -- the mark of a test, and that between codes
-reads_test : (x : Test) → ReadsBack EndsTest test (test_text x) x
-unfolding test test_of test_text mark_text
-reads_test Less = reads_token (is_mark LessMark) test Less (λ place len tokens. refl)
-reads_test Greater = reads_token (is_mark GreaterMark) test Greater (λ place len tokens. refl)
+reads_test : (x : Test) → ReadsBack EndsTest comparison (test_text x) x
+unfolding comparison test_of test_text mark_text
+reads_test Less = reads_token (is_mark LessMark) comparison Less (λ place len tokens. refl)
+reads_test Greater = reads_token (is_mark GreaterMark) comparison Greater (λ place len tokens. refl)
 reads_test AtMost =
-    before_less (reads_token (is_mark AtMostMark) test AtMost (λ place len tokens. refl))
+    before_less (reads_token (is_mark AtMostMark) comparison AtMost (λ place len tokens. refl))
 reads_test AtLeast =
-    before_less (reads_token (is_mark AtLeastMark) test AtLeast (λ place len tokens. refl))
+    before_less (reads_token (is_mark AtLeastMark) comparison AtLeast (λ place len tokens. refl))
 reads_test Equal =
-    before_less (reads_token (is_mark EqualMark) test Equal (λ place len tokens. refl))
+    before_less (reads_token (is_mark EqualMark) comparison Equal (λ place len tokens. refl))
 reads_test Differs =
-    before_less (reads_token (is_mark DiffersMark) test Differs (λ place len tokens. refl))
+    before_less (reads_token (is_mark DiffersMark) comparison Differs (λ place len tokens. refl))
 
 reads_equality : (equal : Bool) → ReadsBack Anything equality (equal_text equal) equal
 unfolding equality equality_of test_of mark_text

@@ -5,7 +5,7 @@ use Rattle.std.proofs.lemmas.Bool.{and_from, and_parts}
 use Rattle.reg_base.specs.Codes.{is_code}
 use Rattle.rule_text.specs.Acts.{make, write_off, require, control, next_code, extra_codes, account_side, side, sides, entry, front_opening, act_of, verb, act}
 use Rattle.rule_text.specs.Binds.{target, amount, amounts}
-use Rattle.rule_text.specs.Conditions.{front_test, test as test_mark, equality, text_cond, sums_cond, field_cond, compared, sum_cond, cond, when}
+use Rattle.rule_text.specs.Conditions.{front_test, comparison as test_mark, equality, text_cond, sums_cond, field_cond, compared, sum_cond, cond, when}
 use Rattle.rule_text.specs.Fronts.{is_mark_next, is_word_next}
 use Rattle.rule_text.specs.Plain.{lone_field, equality_of}
 use Rattle.rule_text.specs.Readers.{Read, ◌>>=◌, give, mark, word, name, code_if, quoted, ends, list_of, list_on}

@@ -8,7 +8,7 @@ use Rattle.rule_text.specs.Plain.{lone_field, equality_of}
 use Rattle.rule_text.specs.Sums.{field, owner, field_code, code, field_part, part, term, joint, next_term, sum}
 use Rattle.rule_text.specs.Binds.{bind_to, bind, next_bind, binds, target, amount, next_amount, amounts}
 use Rattle.rule_text.specs.Acts.{make, write_off, require, control, next_code, extra_codes, account_side, side, sides, entry, opening_of, act_of, verb, act}
-use Rattle.rule_text.specs.Conditions.{test_of, test, equality, text_cond, sums_cond, field_cond, sum_cond, cond, when}
+use Rattle.rule_text.specs.Conditions.{test_of, comparison, equality, text_cond, sums_cond, field_cond, sum_cond, cond, when}
 use Rattle.rule_text.specs.Sentences.{scope, statement, next_statement, statements, statements_of}
 use Rattle.rule_text.specs.declared.fault.TextFault.TheVariants.{Syntax}
 use Rattle.rule_text.specs.declared.token.Spelling.TheVariants.{Named}
@@ -21,7 +21,7 @@ unfolding mark_text single_mark double_mark word_lexeme decimal_count number_lex
     ends many list_on list_of lone_field equality_of field owner field_code code field_part
     part term joint next_term sum bind_to bind next_bind binds target amount next_amount
     amounts make write_off require control next_code extra_codes account_side side sides entry
-    opening_of act_of verb act test_of test equality text_cond sums_cond field_cond sum_cond
+    opening_of act_of verb act test_of comparison equality text_cond sums_cond field_cond sum_cond
     cond when scope statement next_statement statements statements_of is_name is_code
 nothing = refl
 
@@ -37,7 +37,7 @@ unfolding mark_text single_mark double_mark word_lexeme decimal_count number_lex
     ends many list_on list_of lone_field equality_of field owner field_code code field_part
     part term joint next_term sum bind_to bind next_bind binds target amount next_amount
     amounts make write_off require control next_code extra_codes account_side side sides entry
-    opening_of act_of verb act test_of test equality text_cond sums_cond field_cond sum_cond
+    opening_of act_of verb act test_of comparison equality text_cond sums_cond field_cond sum_cond
     cond when scope statement next_statement statements statements_of is_name is_code
 control_said = refl
 
@@ -48,7 +48,7 @@ unfolding mark_text single_mark double_mark word_lexeme decimal_count number_lex
     ends many list_on list_of lone_field equality_of field owner field_code code field_part
     part term joint next_term sum bind_to bind next_bind binds target amount next_amount
     amounts make write_off require control next_code extra_codes account_side side sides entry
-    opening_of act_of verb act test_of test equality text_cond sums_cond field_cond sum_cond
+    opening_of act_of verb act test_of comparison equality text_cond sums_cond field_cond sum_cond
     cond when scope statement next_statement statements statements_of is_name is_code
 number_for_code = refl
 
@@ -59,7 +59,7 @@ unfolding mark_text single_mark double_mark word_lexeme decimal_count number_lex
     ends many list_on list_of lone_field equality_of field owner field_code code field_part
     part term joint next_term sum bind_to bind next_bind binds target amount next_amount
     amounts make write_off require control next_code extra_codes account_side side sides entry
-    opening_of act_of verb act test_of test equality text_cond sums_cond field_cond sum_cond
+    opening_of act_of verb act test_of comparison equality text_cond sums_cond field_cond sum_cond
     cond when scope statement next_statement statements statements_of is_name is_code
 ends_early = refl
 
@@ -70,7 +70,7 @@ unfolding mark_text single_mark double_mark word_lexeme decimal_count number_lex
     ends many list_on list_of lone_field equality_of field owner field_code code field_part
     part term joint next_term sum bind_to bind next_bind binds target amount next_amount
     amounts make write_off require control next_code extra_codes account_side side sides entry
-    opening_of act_of verb act test_of test equality text_cond sums_cond field_cond sum_cond
+    opening_of act_of verb act test_of comparison equality text_cond sums_cond field_cond sum_cond
     cond when scope statement next_statement statements statements_of is_name is_code
 broken_code = refl
 
@@ -80,6 +80,6 @@ unfolding mark_text single_mark double_mark word_lexeme decimal_count number_lex
     ends many list_on list_of lone_field equality_of field owner field_code code field_part
     part term joint next_term sum bind_to bind next_bind binds target amount next_amount
     amounts make write_off require control next_code extra_codes account_side side sides entry
-    opening_of act_of verb act test_of test equality text_cond sums_cond field_cond sum_cond
+    opening_of act_of verb act test_of comparison equality text_cond sums_cond field_cond sum_cond
     cond when scope statement next_statement statements statements_of is_name is_code
 broken_name = refl

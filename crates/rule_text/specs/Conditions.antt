@@ -41,8 +41,8 @@ taken (Some x) tokens = Ok (x, drop 1 tokens)
 taken None tokens = stuck tokens
 
 -- a mark between sums
-unfoldable pub test : Reader Test
-test = λ tokens. taken (front_test tokens) tokens
+unfoldable pub comparison : Reader Test
+comparison = λ tokens. taken (front_test tokens) tokens
 
 -- a mark between codes, `=` or `<>`: whether they have to be equal
 unfoldable pub equality : Reader Bool
@@ -81,7 +81,7 @@ compared None equal left test = sums_cond left test
 unfoldable pub sum_cond : Reader PlainCond
 sum_cond = do
   left ← sum
-  by ← test
+  by ← comparison
   compared (lone_field left) (equality_of by) left by
 
 -- a condition: a text with a code, or a sum with what it can be compared with

@@ -3,7 +3,7 @@ ghost use Rattle.std.specs.Prelude.{◌≡◌, option_and_then};
 ghost use Rattle.reg_base.specs.Results.{Gives};
 ghost use Rattle.rule_text.specs.Plain.{lone_field as lone_field_of, equality_of};
 ghost use Rattle.rule_text.specs.Readers.{Reads, rest};
-ghost use Rattle.rule_text.specs.Conditions.{test_of as test_of_mark, front_test as front_test_of, test as test_read, equality as equality_read, text_cond as text_cond_of, sums_cond as sums_cond_of, field_cond as field_cond_of, compared as compared_of, sum_cond as sum_cond_of, cond as cond_of, when as when_of};
+ghost use Rattle.rule_text.specs.Conditions.{test_of as test_of_mark, front_test as front_test_of, comparison as test_read, equality as equality_read, text_cond as text_cond_of, sums_cond as sums_cond_of, field_cond as field_cond_of, compared as compared_of, sum_cond as sum_cond_of, cond as cond_of, when as when_of};
 ghost use Rattle.rule_text.specs.Sentences.{scope as scope_of, statement as statement_of, next_statement, statements as statements_read, statements_of};
 ghost use Rattle.rule_text.specs.declared.fault.TextFault.TheVariants.{Memory as WantOfMemory};
 
@@ -41,7 +41,7 @@ fn front_test(cursor: &Cursor) -> Option<Test>
 }
 
 /// A mark between sums.
-#[tactic(auto, unfolding(crate::specs::Conditions::test))]
+#[tactic(auto, unfolding(crate::specs::Conditions::comparison))]
 fn test(cursor: &mut Cursor) -> Result<Test, ReadFault>
     ensures { Reads result (rest cursor.new) (test_read (rest cursor.old)) }
 {
