@@ -51,7 +51,15 @@ pub(crate) const NAMES: [(&str, &str); 19] = [
 ];
 
 /// Dimensions without a value, or with two.
-pub(crate) const BINDS: [(&str, &str); 14] = [
+pub(crate) const BINDS: [(&str, &str); 16] = [
+    (
+        "expense goods(item = \"a\", item = \"b\"; quantity = 1);",
+        "fill 0 4",
+    ),
+    (
+        "expense goods(item = head.limit; quantity = 1);",
+        "fill 0 5",
+    ),
     ("each line receipt goods(; quantity = 1);", "fill 0 3"),
     (
         "receipt stock(warehouse = \"m\", item = \"i\"; quantity = 1);",

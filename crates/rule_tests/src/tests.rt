@@ -207,6 +207,29 @@ fn controls(alloc: Global, count: u8, last: &str) -> Option<String> {
     Some(text)
 }
 
+/// A right statement of each verb, which is one too many behind sixty-four.
+const LAST: [&str; 8] = [
+    "receipt goods(item = \"i\"; quantity = 1);",
+    "expense goods(item = \"i\"; quantity = 1);",
+    "turn sales(item = \"i\"; quantity = 1);",
+    "fifo stock(warehouse = \"w\", item = \"i\"; quantity = 1, amount);",
+    "average goods(item = \"i\"; quantity = 1, amount);",
+    "require goods(; quantity) >= 1 code \"low\";",
+    "control goods amount;",
+    "entry main(debit none, credit \"60\"(); 1);",
+];
+
+#[test]
+fn a_statement_of_each_verb_is_one_too_many(rt: HostRuntime) {
+    for last in &LAST {
+        expect(&rt, rt.alloc(), "fill", last, "accepted");
+        match controls(rt.alloc(), 64, last) {
+            Some(text) => expect(&rt, rt.alloc(), "fill", text.as_str(), "fill 1472 8"),
+            None => assert!(rt; false, "memory"),
+        }
+    }
+}
+
 #[test]
 fn the_sixty_fifth_statement_is_one_too_many(rt: HostRuntime) {
     for (count, last, wanted) in [
