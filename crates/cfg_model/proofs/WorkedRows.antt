@@ -12,8 +12,8 @@ use Rattle.cfg_model.specs.declared.account.Account.{Account}
 use Rattle.cfg_model.specs.declared.account.Nature.TheVariants.{Active}
 use Rattle.cfg_model.specs.declared.clerk.Right.TheVariants.{Manual, Read}
 use Rattle.cfg_model.specs.declared.fault.CfgFault.TheVariants.{Field, Twice, Unknown, Count}
-use Rattle.cfg_model.specs.declared.fault.EntryFault.TheVariants.{UnknownAccount, GroupAccount}
-use Rattle.cfg_model.specs.declared.fault.EntryFault.TheVariants.{ExtraCount, Sides}
+use Rattle.reg_base.specs.declared.fault.EntryFault.TheVariants.{UnknownAccount, GroupAccount}
+use Rattle.reg_base.specs.declared.fault.EntryFault.TheVariants.{ExtraCount, Sides}
 use Rattle.cfg_model.specs.Elements.{dimension_of, lot_of, scale_of, resource_of, field_of}
 use Rattle.cfg_model.specs.Elements.{field_scale_of, account_name_of, nature_of, right_of}
 use Rattle.cfg_model.specs.Elements.{right_word}

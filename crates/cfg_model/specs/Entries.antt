@@ -8,9 +8,9 @@ use Rattle.reg_base.specs.Results.{◌>>=◌, unless}
 use Rattle.reg_base.specs.declared.records.Side.{Side}
 use Rattle.cfg_model.specs.declared.ledger.Chart.{Chart}
 use Rattle.cfg_model.specs.declared.account.Account.{Account}
-use Rattle.cfg_model.specs.declared.fault.EntryFault.{EntryFault}
-use Rattle.cfg_model.specs.declared.fault.EntryFault.TheVariants.{UnknownAccount, GroupAccount}
-use Rattle.cfg_model.specs.declared.fault.EntryFault.TheVariants.{ExtraCount, Sides}
+use Rattle.reg_base.specs.declared.fault.EntryFault.{EntryFault}
+use Rattle.reg_base.specs.declared.fault.EntryFault.TheVariants.{UnknownAccount, GroupAccount}
+use Rattle.reg_base.specs.declared.fault.EntryFault.TheVariants.{ExtraCount, Sides}
 use Rattle.cfg_model.specs.Places.{account_at}
 
 -- what a test says of a side, where there is one

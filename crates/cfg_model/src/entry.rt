@@ -5,8 +5,8 @@ ghost use Rattle.cfg_model.specs.Places.{account_at as at_code};
 ghost use Rattle.cfg_model.specs.Entries.{entry_check, of_side, has_account, is_leaf, has_extras};
 ghost use Rattle.cfg_model.specs.Entries.{is_off_balance, is_parent, sides_fit};
 
-use crate::{Account, Chart, EntryFault};
-use reg_base::{Code, Side};
+use crate::{Account, Chart};
+use reg_base::{Code, EntryFault, Side};
 
 /// Accepts an entry of a ledger, or says the first of its faults. It takes no memory.
 #[tactic(auto, unfolding(crate::specs::Entries::entry_check))]

@@ -1,9 +1,9 @@
-//! Why a configuration is refused, and why a document is not posted.
+//! Why a configuration is refused.
 ghost use Rattle.std.specs.Prelude.{◌≡◌, ◌++◌, IfOk, string_bytes};
 ghost use Rattle.cfg_model.specs.FaultTexts.{fault_text, count_text};
 ghost use Rattle.cfg_model.specs.declared.fault.CfgFault.TheVariants.{Memory as WantOfMemory};
 
-use reg_base::{Code, Memory, Text};
+use reg_base::{Memory, Text};
 use std::alloc::{AllocError, AllocFailed, Global};
 
 /// The first fault of a configuration file.
@@ -72,55 +72,4 @@ impl<T: Drop> From<AllocFailed<T>> for CfgFault {
     fn from(_refused: AllocFailed<T>) -> CfgFault {
         CfgFault::Memory
     }
-}
-
-/// Why an entry of a ledger is refused, the debit being asked before the credit.
-#[derive(Clone, Copy, Debug, PartialEq, Eq)]
-pub enum EntryFault {
-    /// The chart has no account of this code.
-    UnknownAccount,
-    /// The account is the parent of another one.
-    GroupAccount,
-    /// The extras are not as many as the account has.
-    ExtraCount,
-    /// No side is given, or one side alone whose account is not off-balance, or one of two accounts
-    /// is off-balance.
-    Sides,
-}
-
-/// Why the records and entries of a document are refused. `rule` is the number of a statement of
-/// the document type, `line` that of the document's line, both from 1; `line` is 0 for what is
-/// done once.
-#[derive(Clone, Copy, Debug, PartialEq, Eq)]
-pub enum PostFault {
-    /// What a rule requires does not hold; `code` is the one that the rule gives.
-    Broken {
-        rule: u32,
-        line: u32,
-        code: Code,
-    },
-    /// There is less to write off than is wanted: `missing` units of the quantity.
-    Shortage {
-        rule: u32,
-        line: u32,
-        missing: i64,
-    },
-    /// A number passes the largest one.
-    Overflow {
-        rule: u32,
-        line: u32,
-    },
-    /// The chart of accounts refuses the entry.
-    Entry {
-        rule: u32,
-        line: u32,
-        fault: EntryFault,
-    },
-    /// A set would have more than 5,000 records.
-    TooManyRecords,
-    /// A wanted quantity is below 0.
-    Negative {
-        rule: u32,
-        line: u32,
-    },
 }

@@ -32,8 +32,9 @@ pub use config::{
     CLERK_LIMIT, Config, DOCUMENT_LIMIT, LEDGER_LIMIT, REGISTER_LIMIT, SEQUENCE_LIMIT,
 };
 pub use entry::check_entry;
-pub use fault::{CfgFault, EntryFault, PostFault};
+pub use fault::CfgFault;
 pub use kind::{FIELD_LIMIT, Field, Kind};
 pub use ledger::Chart;
 pub use register::{DIMENSION_LIMIT, Dimension, RESOURCE_LIMIT, Register, Resource};
+pub use reg_base::EntryFault;
 pub use sequence::Sequence;

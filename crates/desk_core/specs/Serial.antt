@@ -8,7 +8,7 @@ use Rattle.reg_base.specs.declared.records.Document.{Document}
 use Rattle.reg_base.specs.Results.{◌>>=◌, unless}
 use Rattle.reg_base.specs.Records.{records_of, chosen}
 use Rattle.cfg_model.specs.declared.config.Config.{Config}
-use Rattle.cfg_model.specs.declared.fault.PostFault.TheVariants.{TooManyRecords}
+use Rattle.reg_base.specs.declared.fault.PostFault.TheVariants.{TooManyRecords}
 use Rattle.cfg_model.specs.Places.{clerk_place}
 use Rattle.desk_words.specs.declared.request.Request.{Request}
 use Rattle.desk_words.specs.declared.reply.Answer.{Answer}

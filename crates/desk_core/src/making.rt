@@ -5,9 +5,8 @@ ghost use Rattle.desk_core.specs.Serial.{is_made as is_made_of, make_set as make
 
 use crate::given::Given;
 use crate::tried::Tried;
-use cfg_model::PostFault;
 use desk_words::Refusal;
-use reg_base::{Date, List, Memory, Rec};
+use reg_base::{Date, List, Memory, PostFault, Rec};
 use std::alloc::Global;
 
 /// How many records a set has at the most.

@@ -12,8 +12,8 @@ use Rattle.desk_words.specs.declared.reply.Answer.{Answer}
 use Rattle.desk_words.specs.declared.reply.Answer.TheVariants.{Document, Balance}
 use Rattle.desk_words.specs.declared.reply.Refusal.{Refusal}
 use Rattle.desk_words.specs.declared.reply.Refusal.TheVariants.{BadLine, UnknownClerk, BadField, Limit, Rule}
-use Rattle.cfg_model.specs.declared.fault.PostFault.{PostFault}
-use Rattle.cfg_model.specs.declared.fault.PostFault.TheVariants.{Broken, Shortage, Overflow, Entry, TooManyRecords, Negative}
+use Rattle.reg_base.specs.declared.fault.PostFault.{PostFault}
+use Rattle.reg_base.specs.declared.fault.PostFault.TheVariants.{Broken, Shortage, Overflow, Entry, TooManyRecords, Negative}
 use Rattle.desk_words.specs.ReplyTexts.{sum_texts, texts_data, row_data, rows_data, document_data, answer_data, word_fault_members, post_fault_members, refusal_detail, refusal_data, reply_data}
 
 -- without sums there are no texts

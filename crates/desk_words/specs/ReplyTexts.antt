@@ -17,8 +17,8 @@ use Rattle.desk_words.specs.declared.reply.Answer.{Answer}
 use Rattle.desk_words.specs.declared.reply.Answer.TheVariants.{Document, Balance}
 use Rattle.desk_words.specs.declared.reply.Refusal.{Refusal}
 use Rattle.desk_words.specs.declared.reply.Refusal.TheVariants.{BadLine, UnknownClerk, BadField, Limit as LimitPassed, Rule}
-use Rattle.cfg_model.specs.declared.fault.PostFault.{PostFault}
-use Rattle.cfg_model.specs.declared.fault.PostFault.TheVariants.{Broken, Shortage, Overflow, Entry, TooManyRecords, Negative}
+use Rattle.reg_base.specs.declared.fault.PostFault.{PostFault}
+use Rattle.reg_base.specs.declared.fault.PostFault.TheVariants.{Broken, Shortage, Overflow, Entry, TooManyRecords, Negative}
 use Rattle.desk_words.specs.Members.{member_name}
 use Rattle.desk_words.specs.ReplyWords.{state_name, field_name, limit_name, word_fault_number, entry_fault_number, refusal_number, refusal_name}
 

@@ -10,10 +10,10 @@ use Rattle.desk_words.specs.declared.reply.Field.{Field}
 use Rattle.desk_words.specs.declared.reply.Field.TheVariants.{Space, Register, Values, Sums, Kind}
 use Rattle.desk_words.specs.declared.reply.Limit.{Limit}
 use Rattle.desk_words.specs.declared.reply.Limit.TheVariants.{Numbers}
-use Rattle.cfg_model.specs.declared.fault.PostFault.{PostFault}
-use Rattle.cfg_model.specs.declared.fault.PostFault.TheVariants.{Broken, Shortage, Overflow, Entry, TooManyRecords, Negative}
-use Rattle.cfg_model.specs.declared.fault.EntryFault.{EntryFault}
-use Rattle.cfg_model.specs.declared.fault.EntryFault.TheVariants.{UnknownAccount, GroupAccount, ExtraCount, Sides}
+use Rattle.reg_base.specs.declared.fault.PostFault.{PostFault}
+use Rattle.reg_base.specs.declared.fault.PostFault.TheVariants.{Broken, Shortage, Overflow, Entry, TooManyRecords, Negative}
+use Rattle.reg_base.specs.declared.fault.EntryFault.{EntryFault}
+use Rattle.reg_base.specs.declared.fault.EntryFault.TheVariants.{UnknownAccount, GroupAccount, ExtraCount, Sides}
 
 -- the word of a document's state
 abbrev pub state_name : DocState → List ℕ

@@ -3,8 +3,8 @@
 //! Means: `request` in `specs/Reading.antt` says which request a line is, or its first fault;
 //! `reply_text` in `specs/ReplyTexts.antt` is the line that a reply is printed as.
 //!
-//! Stands on: `serde_json` for JSON, `reg_base` for names, dates, cuts and codes, `reg_io` for
-//! lines, and `cfg_model` for the faults of posting.
+//! Stands on: `serde_json` for JSON, `reg_base` for names, dates, cuts, codes and the faults of
+//! posting, `reg_io` for lines.
 //!
 //! Promises: a line is read exactly as `request` says, and a reply printed exactly as
 //! `reply_text` says; want of memory alone is free.

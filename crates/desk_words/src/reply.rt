@@ -5,8 +5,7 @@ ghost use Rattle.desk_words.specs.ReplyWords.{field_name, limit_name, post_fault
 
 use crate::fault::WordFault;
 use crate::reply_values::{print_value, reply_value};
-use cfg_model::{EntryFault, PostFault};
-use reg_base::{DocState, List, Memory, Scale, SumRow};
+use reg_base::{DocState, EntryFault, List, Memory, PostFault, Scale, SumRow};
 use std::alloc::Global;
 
 /// The one reply to a line.

@@ -10,8 +10,9 @@ ghost use Rattle.serde_json.specs.Data.{put as member_put};
 use crate::fault::WordFault;
 use crate::parsed::Object;
 use crate::reply::{Answer, Refusal, Reply, entry_fault_number};
-use cfg_model::{EntryFault, PostFault};
-use reg_base::{Code, DocState, Memory, Scale, SumRow, Value, sum_string};
+use reg_base::{
+    Code, DocState, EntryFault, Memory, PostFault, Scale, SumRow, Value, sum_string,
+};
 use serde_json::{Value as Json, json, put};
 use std::alloc::Global;
 

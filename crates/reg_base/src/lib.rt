@@ -1,4 +1,5 @@
-//! Plain types of registers: texts, codes, dates, points, records, and what a balance is.
+//! Plain types of registers: texts, codes, dates, points, records and why they are refused, and
+//! what a balance is.
 //!
 //! Means: a text is its bytes, a date its seconds, a list its elements; `records_of` in
 //! `specs/Records.antt` gives a register's records, and `balance_of` in `specs/Balances.antt`
@@ -17,6 +18,7 @@ mod comment;
 mod cut;
 mod date;
 mod day;
+mod fault;
 mod list;
 mod memory;
 mod name;
@@ -34,6 +36,7 @@ pub use code::Code;
 pub use comment::Comment;
 pub use cut::{Cut, inside};
 pub use date::{Date, DateFault};
+pub use fault::{EntryFault, PostFault};
 pub use list::List;
 pub use memory::Memory;
 pub use name::Name;

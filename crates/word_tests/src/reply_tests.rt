@@ -1,8 +1,7 @@
 //! Replies as they are printed, byte by byte.
 use crate::tests::{line_of, printed};
-use cfg_model::{EntryFault, PostFault};
 use desk_words::{Answer, Field, Limit, Refusal, Reply, Request};
-use reg_base::{Code, DocState, List, Scale, SumRow, Value};
+use reg_base::{Code, DocState, EntryFault, List, PostFault, Scale, SumRow, Value};
 use reg_io::Line;
 use std::alloc::Global;
 use std::test::Fail;
