@@ -38,6 +38,8 @@ use Rattle.rule_lang.specs.declared.statement.Act.TheVariants.{Make}
 use Rattle.rule_lang.specs.declared.statement.BindTo.TheVariants.{Code}
 use Rattle.rule_lang.specs.declared.statement.CodeTerm.TheVariants.{Text}
 use Rattle.rule_lang.specs.declared.statement.Part.TheVariants.{Number}
+use Rattle.rule_lang.specs.declared.statement.Statement.{Statement}
+use Rattle.rule_lang.specs.Printed.{printed as printed_config}
 
 -- goods by item, with a quantity of three decimals
 abbrev goods : Register
@@ -69,6 +71,21 @@ shop sequences rules = record {
   sequences = sequences;
   clerks = [];
 }
+
+-- a receipt of one unit of nails
+abbrev nails : List Statement
+nails = record {
+  each = false;
+  act = Make Receipt 0
+      (record { dimension = 0; to = Code (Text (codes "nail")) } ∷ [])
+      ((
+        0,
+        record {
+          terms = record { minus = false; negative = false; part = Number (pos 1000) } ∷ [];
+        },
+      ) ∷ []);
+  when = None;
+} ∷ []
 
 -- a number where a code or a semicolon has to stand
 number_for_code : rules_of (shop [] (codes "each line receipt goods(quantity = 1);"))
@@ -112,19 +129,7 @@ without_item = refl
 
 -- one unit of the register is a thousand of its smallest
 accepted : rules_of (shop [] (codes "receipt goods(item=\"nail\";quantity=1);"))
-    ≡ Ok ((record {
-      each = false;
-      act = Make Receipt 0
-          (record { dimension = 0; to = Code (Text (codes "nail")) } ∷ [])
-          ((
-            0,
-            record {
-              terms =
-                  record { minus = false; negative = false; part = Number (pos 1000) } ∷ [];
-            },
-          ) ∷ []);
-      when = None;
-    } ∷ []) ∷ [])
+    ≡ Ok (nails ∷ [])
 unfolding mark_text single_mark double_mark word_lexeme decimal_count number_lexeme closed_code
     quoted_lexeme mark_lexeme lexeme_of pieces_from tokens_of mark word name code_if quoted
     ends many list_on list_of lone_field equality_of field owner field_code code field_part
@@ -169,20 +174,18 @@ unfolding mark_text single_mark double_mark word_lexeme decimal_count number_lex
 reads_elsewhere = refl
 
 -- one unit is printed with the decimals of its resource
-printed : rules_text (shop [] []) 0 (record {
-  each = false;
-  act = Make Receipt 0
-      (record { dimension = 0; to = Code (Text (codes "nail")) } ∷ [])
-      ((
-        0,
-        record {
-          terms = record { minus = false; negative = false; part = Number (pos 1000) } ∷ [];
-        },
-      ) ∷ []);
-  when = None;
-} ∷ [])
+printed : rules_text (shop [] []) 0 nails
     ≡ codes "once receipt goods(item = \"nail\"; quantity = 1.000);\n"
 unfolding code_text part_text term_text terms_text test_text part_scale terms_scale cond_text
     when_text to_text bind_text binds_text amount_text amounts_text make_text act_text scope_text
     statement_text statements_text rules_text scale_at costs_after number_text sum_text units_text
 printed = refl
+
+-- the configuration with that text in the place of its own
+printed_whole : printed_config (shop [] (codes "receipt goods(item=\"nail\";quantity=1);"))
+    (nails ∷ [])
+    ≡ shop [] (codes "once receipt goods(item = \"nail\"; quantity = 1.000);\n")
+unfolding code_text part_text term_text terms_text test_text part_scale terms_scale cond_text
+    when_text to_text bind_text binds_text amount_text amounts_text make_text act_text scope_text
+    statement_text statements_text rules_text scale_at costs_after number_text sum_text units_text
+printed_whole = refl
