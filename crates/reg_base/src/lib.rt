@@ -5,7 +5,7 @@
 //! `specs/Records.antt` gives a register's records, and `balance_of` in `specs/Balances.antt`
 //! sums them. Contracts of all crates above speak of these.
 //!
-//! Stands on: `jiff` for the calendar.
+//! Stands on: `jiff_core` for the calendar.
 //!
 //! Promises: each `parse` accepts exactly its spelling and names the first fault; orders are
 //! total; what is printed is exactly the text that `specs/` gives.
