@@ -1,5 +1,5 @@
 //! The configuration, and how it is read from the bytes of a file.
-ghost use Rattle.std.specs.Prelude.{◌≡◌, [], IfOk};
+ghost use Rattle.std.specs.Prelude.{◌≡◌, [], IfOk, Ok as Accepted};
 ghost use Rattle.toml.specs.View.{table_view};
 ghost use Rattle.reg_base.specs.Results.{Gives, GivesAs, some_or};
 ghost use Rattle.cfg_model.specs.declared.fault.CfgFault.TheVariants.{Memory, NotToml};
@@ -7,6 +7,8 @@ ghost use Rattle.cfg_model.specs.Limits.{IsWithinLimits};
 ghost use Rattle.cfg_model.specs.Places.{clerk_place, register_place};
 ghost use Rattle.cfg_model.specs.Reading.{read_config, config_of, document};
 ghost use Rattle.cfg_model.specs.Resolving.{HasNamesInOrder, IsInOrder, NamesResolve};
+ghost use Rattle.cfg_model.specs.Walk.{known_keys};
+ghost use Rattle.cfg_model.specs.Words.{group_keys};
 
 use crate::group::read_group;
 use crate::walk::known_keys;
@@ -73,6 +75,21 @@ impl Config {
         config_of(alloc, &top)
     }
 
+    /// Reads the groups of a table whose keys are known, each given those before it.
+    #[tactic(auto, unfolding(crate::specs::Reading::config_of))]
+    fn read_groups(&mut self, alloc: Global, top: &Table) -> Result<(), CfgFault>
+        requires { let keys = table_view top.now in known_keys group_keys keys ≡ Accepted keys }
+        ensures read { GivesAs Memory (λ _. self.new) result (config_of (table_view top.now)) }
+        ensures in_order { IfOk result (λ _. HasNamesInOrder self.new) }
+    {
+        self.registers = read_group(alloc, top, "register", REGISTER_LIMIT, self)?;
+        self.ledgers = read_group(alloc, top, "ledger", LEDGER_LIMIT, self)?;
+        self.kinds = read_group(alloc, top, "document", DOCUMENT_LIMIT, self)?;
+        self.sequences = read_group(alloc, top, "sequence", SEQUENCE_LIMIT, self)?;
+        self.clerks = read_group(alloc, top, "clerk", CLERK_LIMIT, self)?;
+        Ok(())
+    }
+
     /// The place of the register of this name, counted from 0.
     pub fn register_place(&self, name: &Name) -> Option<usize>
         ensures { result ≡ register_place name.now self.now.registers }
@@ -112,10 +129,6 @@ fn config_of(alloc: Global, top: &Table) -> Result<Config, CfgFault>
 {
     known_keys(alloc, &GROUP_KEYS, top)?;
     let mut config = Config::empty(alloc);
-    config.registers = read_group(alloc, top, "register", REGISTER_LIMIT, &config)?;
-    config.ledgers = read_group(alloc, top, "ledger", LEDGER_LIMIT, &config)?;
-    config.kinds = read_group(alloc, top, "document", DOCUMENT_LIMIT, &config)?;
-    config.sequences = read_group(alloc, top, "sequence", SEQUENCE_LIMIT, &config)?;
-    config.clerks = read_group(alloc, top, "clerk", CLERK_LIMIT, &config)?;
+    config.read_groups(alloc, top)?;
     Ok(config)
 }

@@ -35,6 +35,6 @@ pub use entry::check_entry;
 pub use fault::CfgFault;
 pub use kind::{FIELD_LIMIT, Field, Kind};
 pub use ledger::Chart;
-pub use register::{DIMENSION_LIMIT, Dimension, RESOURCE_LIMIT, Register, Resource};
 pub use reg_base::EntryFault;
+pub use register::{DIMENSION_LIMIT, Dimension, RESOURCE_LIMIT, Register, Resource};
 pub use sequence::Sequence;
