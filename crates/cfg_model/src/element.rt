@@ -91,20 +91,25 @@ pub(crate) fn elements_of<E: Element>(
     }
 }
 
+/// What the texts of a list spell, where each is a text and spells an element.
 fn spelled<E: Element>(alloc: Global, array: &Array) -> Result<Option<List<E>>, AllocError>
     ensures { IfOk result (λ found. found ≡ each_item (text_of E.reads) (array_view array.now)) }
 {
     let mut found = Vec::new(alloc);
     'items: for item in array {
-        let Some(text) = item.as_str() else {
-            return Ok(None);
-        };
-        let Some(element) = E::parse(text) else {
+        let Some(element) = element_of(item) else {
             return Ok(None);
         };
         found.push(element)?;
     }
     Ok(Some(List::from_vec(found)))
+}
+
+/// What a text spells.
+fn element_of<E: Element>(value: &Value) -> Option<E>
+    ensures { result ≡ text_of E.reads (view value.now) }
+{
+    E::parse(value.as_str()?)
 }
 
 /// Refuses a list in which an element stands twice.
