@@ -5,5 +5,6 @@ pub mod RegisterLemmas
 pub mod SequenceLemmas
 pub mod ChartLemmas
 pub mod PlaceLemmas
+pub mod AccountSteps
 pub mod ConfigLemmas
 mod WorkedRows

@@ -6,6 +6,7 @@ pub mod Places
 pub mod Registers
 pub mod Accounts
 pub mod AccountMaps
+pub mod AccountChecks
 pub mod Ledgers
 pub mod Kinds
 pub mod Labels

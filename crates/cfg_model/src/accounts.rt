@@ -13,6 +13,7 @@ ghost use Rattle.cfg_model.specs.Accounts.{read_accounts, account_of, each_check
 ghost use Rattle.cfg_model.specs.Accounts.{parent_known, has_known_parent, has_parents_off};
 ghost use Rattle.cfg_model.specs.Accounts.{few_extras as few_extras_at, agrees_in_off as agrees};
 ghost use Rattle.cfg_model.specs.Accounts.{put_account, by_code as by_code_of};
+ghost use Rattle.cfg_model.specs.AccountChecks.{accounts_checked, parents_checked};
 ghost use Rattle.cfg_model.specs.AccountMaps.{AreKeyed, values_of, place_at, LeadsToPlaces};
 
 use crate::element::distinct;
@@ -31,7 +32,7 @@ pub const ACCOUNT_LIMIT: usize = 512;
 pub const EXTRA_LIMIT: usize = 3;
 
 /// The accounts of a ledger, in byte order of codes.
-#[tactic(auto, unfolding(crate::specs::Accounts::read_accounts))]
+#[tactic(auto, using(crate::proofs::AccountSteps::read_accounts_in_steps))]
 pub(crate) fn read_accounts(alloc: Global, entry: &Entry) -> Result<List<Account>, CfgFault>
     requires { entry.now.group.now ≡ codes "ledger" }
     ensures { let keys = table_view entry.now.keys.now in
@@ -39,12 +40,38 @@ pub(crate) fn read_accounts(alloc: Global, entry: &Entry) -> Result<List<Account
 {
     let accounts = accounts_at(alloc, entry)?;
     entry.at_most(alloc, "accounts", ACCOUNT_LIMIT, accounts.len())?;
-    few_extras(alloc, entry, accounts.as_slice())?;
-    let places = places_of(alloc, accounts.as_slice())?;
-    all_parents_known(alloc, accounts.as_slice(), &places)?;
-    none_circular(alloc, accounts.as_slice(), &places)?;
-    all_agree_in_off(alloc, entry, accounts.as_slice(), &places)?;
+    check_accounts(alloc, entry, accounts.as_slice())?;
     Ok(by_code(alloc, accounts)?)
+}
+
+/// Refuses accounts that do not fit each other, or have too many extras.
+#[tactic(auto, unfolding(crate::specs::AccountChecks::accounts_checked))]
+fn check_accounts(alloc: Global, entry: &Entry, accounts: &[Account]) -> Result<(), CfgFault>
+    requires { entry.now.group.now ≡ codes "ledger" }
+    ensures { let path = key_path (codes "ledger") entry.now.name.now (codes "accounts") in
+        Gives Memory result (accounts_checked path accounts.now) }
+{
+    few_extras(alloc, entry, accounts)?;
+    let places = places_of(alloc, accounts)?;
+    check_parents(alloc, entry, accounts, &places)
+}
+
+/// Refuses a parent that is no account, that leads back, or that differs in `off`.
+#[tactic(auto, unfolding(crate::specs::AccountChecks::parents_checked))]
+fn check_parents(
+    alloc: Global,
+    entry: &Entry,
+    accounts: &[Account],
+    places: &BTreeMap<Code, usize>,
+) -> Result<(), CfgFault>
+    requires group { entry.now.group.now ≡ codes "ledger" }
+    requires places { LeadsToPlaces places.now.entries accounts.now }
+    ensures { let path = key_path (codes "ledger") entry.now.name.now (codes "accounts") in
+        Gives Memory result (parents_checked path accounts.now) }
+{
+    all_parents_known(alloc, accounts, places)?;
+    none_circular(alloc, accounts, places)?;
+    all_agree_in_off(alloc, entry, accounts, places)
 }
 
 /// The accounts that the list under the key holds, in its order.
