@@ -12,6 +12,7 @@ pub mod Kinds
 pub mod Labels
 pub mod Sequences
 pub mod Clerks
+pub mod EntryParts
 pub mod Reading
 pub mod Resolving
 pub mod Entries

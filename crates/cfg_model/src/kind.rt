@@ -1,11 +1,15 @@
 //! A document type: its fields and its posting rules.
-ghost use Rattle.std.specs.Prelude.{◌≡◌, codes, false};
+ghost use Rattle.std.specs.Prelude.{◌≡◌, codes, false, IfOk};
+ghost use Rattle.toml.specs.Data.{as_str};
 ghost use Rattle.toml.specs.View.{view, table_view};
-ghost use Rattle.reg_base.specs.Results.{Gives};
-ghost use Rattle.cfg_model.specs.declared.fault.CfgFault.TheVariants.{Memory};
+ghost use Rattle.reg_base.specs.Results.{Gives, some_or};
+ghost use Rattle.cfg_model.specs.declared.fault.CfgFault.TheVariants.{Memory, Field as AtPath};
 ghost use Rattle.cfg_model.specs.Elements.{field_of, field_scale_of};
+ghost use Rattle.cfg_model.specs.EntryParts.{kind_of};
 ghost use Rattle.cfg_model.specs.Kinds.{read_kind, read_fields};
 ghost use Rattle.cfg_model.specs.Sequences.{has_code_field};
+ghost use Rattle.cfg_model.specs.Walk.{of_shape};
+ghost use Rattle.cfg_model.specs.Words.{key_path};
 
 use crate::element::{Element, distinct};
 use crate::group::FromEntry;
@@ -90,7 +94,7 @@ impl FromEntry for Kind {
 
     ghost name_of = { λ kind. kind.name };
 
-    #[tactic(auto, unfolding(crate::specs::Kinds::read_kind))]
+    #[tactic(auto, unfolding(crate::specs::Kinds::read_kind, crate::specs::EntryParts::kind_of))]
     fn read(alloc: Global, _config: &Config, name: &str, value: &Value) -> Result<Kind, CfgFault> {
         let known = ["head", "lines", "rules"];
         let keys = entry_keys(alloc, "document", &[], &known, name, value)?;
@@ -99,18 +103,27 @@ impl FromEntry for Kind {
             name,
             keys,
         };
-        let head = read_fields(alloc, &entry, "head")?;
-        let lines = read_fields(alloc, &entry, "lines")?;
-        let Some(rules) = entry.text("rules") else {
-            return Err(entry.wrong(alloc, "rules"));
-        };
-        Ok(Kind {
-            name: Name::parse(name).unwrap(),
-            head,
-            lines,
-            rules: Text::from_str(alloc, rules)?,
-        })
+        kind_of(alloc, &entry, Name::parse(name).unwrap())
     }
+}
+
+/// The document type that the keys of an entry say.
+#[tactic(auto, unfolding(crate::specs::EntryParts::kind_of))]
+fn kind_of(alloc: Global, entry: &Entry, name: Name) -> Result<Kind, CfgFault>
+    requires group { entry.now.group.now ≡ codes "document" }
+    requires name { name ≡ entry.now.name.now }
+    ensures read { Gives Memory result (kind_of entry.now.name.now (table_view entry.now.keys.now)) }
+    ensures named { IfOk result (λ kind. kind.name ≡ name) }
+{
+    let head = read_fields(alloc, entry, "head")?;
+    let lines = read_fields(alloc, entry, "lines")?;
+    let rules = read_rules(alloc, entry)?;
+    Ok(Kind {
+        name,
+        head,
+        lines,
+        rules,
+    })
 }
 
 #[tactic(auto, unfolding(crate::specs::Kinds::read_fields))]
@@ -123,4 +136,16 @@ fn read_fields(alloc: Global, entry: &Entry, key: &str) -> Result<List<Field>, C
     entry.at_most(alloc, key, FIELD_LIMIT, fields.len())?;
     distinct(alloc, fields.as_slice())?;
     Ok(fields)
+}
+
+fn read_rules(alloc: Global, entry: &Entry) -> Result<Text, CfgFault>
+    requires { entry.now.group.now ≡ codes "document" }
+    ensures { let path = key_path (codes "document") entry.now.name.now (codes "rules") in
+        let found = of_shape as_str (codes "rules") (table_view entry.now.keys.now) in
+        Gives Memory result (some_or found (AtPath path)) }
+{
+    let Some(rules) = entry.text("rules") else {
+        return Err(entry.wrong(alloc, "rules"));
+    };
+    Ok(Text::from_str(alloc, rules)?)
 }

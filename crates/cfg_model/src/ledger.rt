@@ -1,8 +1,9 @@
 //! A ledger: its chart of accounts.
-ghost use Rattle.std.specs.Prelude.{◌≡◌, codes};
+ghost use Rattle.std.specs.Prelude.{◌≡◌, codes, IfOk};
 ghost use Rattle.toml.specs.View.{view, table_view};
 ghost use Rattle.reg_base.specs.Results.{Gives};
 ghost use Rattle.cfg_model.specs.declared.fault.CfgFault.TheVariants.{Memory};
+ghost use Rattle.cfg_model.specs.EntryParts.{ledger_of};
 ghost use Rattle.cfg_model.specs.Ledgers.{read_ledger, read_scale, scale_number};
 
 use crate::accounts::read_accounts;
@@ -29,7 +30,7 @@ impl FromEntry for Chart {
 
     ghost name_of = { λ chart. chart.name };
 
-    #[tactic(auto, unfolding(crate::specs::Ledgers::read_ledger))]
+    #[tactic(auto, unfolding(crate::specs::Ledgers::read_ledger, crate::specs::EntryParts::ledger_of))]
     fn read(alloc: Global, config: &Config, name: &str, value: &Value) -> Result<Chart, CfgFault> {
         let known = ["scale", "split", "accounts"];
         let registers = config.registers.as_slice();
@@ -39,16 +40,28 @@ impl FromEntry for Chart {
             name,
             keys,
         };
-        let scale = read_scale(alloc, &entry)?;
-        let split = entry.split(alloc)?;
-        let accounts = read_accounts(alloc, &entry)?;
-        Ok(Chart {
-            name: Name::parse(name).unwrap(),
-            scale,
-            split,
-            accounts,
-        })
+        chart_of(alloc, &entry, Name::parse(name).unwrap())
     }
+}
+
+/// The ledger that the keys of an entry say.
+#[tactic(auto, unfolding(crate::specs::EntryParts::ledger_of))]
+fn chart_of(alloc: Global, entry: &Entry, name: Name) -> Result<Chart, CfgFault>
+    requires group { entry.now.group.now ≡ codes "ledger" }
+    requires name { name ≡ entry.now.name.now }
+    ensures read { let keys = table_view entry.now.keys.now in
+        Gives Memory result (ledger_of entry.now.name.now keys) }
+    ensures named { IfOk result (λ chart. chart.name ≡ name) }
+{
+    let scale = read_scale(alloc, entry)?;
+    let split = entry.split(alloc)?;
+    let accounts = read_accounts(alloc, entry)?;
+    Ok(Chart {
+        name,
+        scale,
+        split,
+        accounts,
+    })
 }
 
 #[tactic(auto, unfolding(crate::specs::Ledgers::read_scale))]

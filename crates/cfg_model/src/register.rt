@@ -1,9 +1,10 @@
 //! A register: the dimensions by which its records are told apart, and the numbers they bring.
-ghost use Rattle.std.specs.Prelude.{◌≡◌, codes, false};
+ghost use Rattle.std.specs.Prelude.{◌≡◌, codes, false, IfOk};
 ghost use Rattle.toml.specs.View.{view, table_view};
 ghost use Rattle.reg_base.specs.Results.{Gives};
 ghost use Rattle.cfg_model.specs.declared.fault.CfgFault.TheVariants.{Memory};
 ghost use Rattle.cfg_model.specs.Elements.{dimension_of, lot_of, resource_of, scale_of};
+ghost use Rattle.cfg_model.specs.EntryParts.{register_of};
 ghost use Rattle.cfg_model.specs.Registers.{read_register, read_balance, balance_of};
 ghost use Rattle.cfg_model.specs.Registers.{read_dimensions, read_resources};
 ghost use Rattle.cfg_model.specs.Sequences.{has_codes};
@@ -138,7 +139,7 @@ impl FromEntry for Register {
 
     ghost name_of = { λ register. register.name };
 
-    #[tactic(auto, unfolding(crate::specs::Registers::read_register))]
+    #[tactic(auto, unfolding(crate::specs::Registers::read_register, crate::specs::EntryParts::register_of))]
     fn read(
         alloc: Global,
         _config: &Config,
@@ -152,18 +153,30 @@ impl FromEntry for Register {
             name,
             keys,
         };
-        let balance = read_balance(alloc, &entry)?;
-        let dimensions = read_dimensions(alloc, &entry)?;
-        let resources = read_resources(alloc, &entry)?;
-        let split = entry.split(alloc)?;
-        Ok(Register {
-            name: Name::parse(name).unwrap(),
-            balance,
-            dimensions,
-            resources,
-            split,
-        })
+        register_of(alloc, &entry, Name::parse(name).unwrap())
     }
+}
+
+/// The register that the keys of an entry say.
+#[tactic(auto, unfolding(crate::specs::EntryParts::register_of))]
+fn register_of(alloc: Global, entry: &Entry, name: Name) -> Result<Register, CfgFault>
+    requires group { entry.now.group.now ≡ codes "register" }
+    requires name { name ≡ entry.now.name.now }
+    ensures read { let keys = table_view entry.now.keys.now in
+        Gives Memory result (register_of entry.now.name.now keys) }
+    ensures named { IfOk result (λ register. register.name ≡ name) }
+{
+    let balance = read_balance(alloc, entry)?;
+    let dimensions = read_dimensions(alloc, entry)?;
+    let resources = read_resources(alloc, entry)?;
+    let split = entry.split(alloc)?;
+    Ok(Register {
+        name,
+        balance,
+        dimensions,
+        resources,
+        split,
+    })
 }
 
 /// Whether the register has balances.
