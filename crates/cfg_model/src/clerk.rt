@@ -6,7 +6,7 @@ ghost use Rattle.cfg_model.specs.declared.fault.CfgFault.TheVariants.{Memory};
 ghost use Rattle.cfg_model.specs.Elements.{right_of, right_word};
 ghost use Rattle.cfg_model.specs.Clerks.{read_clerk, read_rights};
 
-use crate::element::{Element, distinct};
+use crate::element::{Element, all_distinct};
 use crate::group::FromEntry;
 use crate::walk::{Entry, entry_keys};
 use crate::{CfgFault, Config};
@@ -106,6 +106,5 @@ fn read_rights(alloc: Global, entry: &Entry) -> Result<List<Right>, CfgFault>
         Gives Memory result (read_rights entry.now.name.now keys) }
 {
     let rights = entry.elements(alloc, "rights")?;
-    distinct(alloc, rights.as_slice())?;
-    Ok(rights)
+    all_distinct(alloc, rights)
 }

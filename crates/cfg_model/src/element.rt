@@ -112,6 +112,14 @@ fn element_of<E: Element>(value: &Value) -> Option<E>
     E::parse(value.as_str()?)
 }
 
+/// The same list, in which no element stands twice.
+pub(crate) fn all_distinct<E: Element>(alloc: Global, found: List<E>) -> Result<List<E>, CfgFault>
+    ensures { Gives Memory result (distinct E.label_of E.sole found) }
+{
+    distinct(alloc, found.as_slice())?;
+    Ok(found)
+}
+
 /// Refuses a list in which an element stands twice.
 pub(crate) fn distinct<E: Element>(alloc: Global, found: &[E]) -> Result<(), CfgFault>
     ensures { GivesAs Memory (λ _. found.now) result (distinct E.label_of E.sole found.now) }

@@ -11,7 +11,7 @@ ghost use Rattle.cfg_model.specs.Sequences.{has_code_field};
 ghost use Rattle.cfg_model.specs.Walk.{of_shape};
 ghost use Rattle.cfg_model.specs.Words.{key_path};
 
-use crate::element::{Element, distinct};
+use crate::element::{Element, all_distinct};
 use crate::group::FromEntry;
 use crate::register::parse_scale;
 use crate::walk::{Entry, entry_keys};
@@ -134,8 +134,7 @@ fn read_fields(alloc: Global, entry: &Entry, key: &str) -> Result<List<Field>, C
 {
     let fields = entry.elements(alloc, key)?;
     entry.at_most(alloc, key, FIELD_LIMIT, fields.len())?;
-    distinct(alloc, fields.as_slice())?;
-    Ok(fields)
+    all_distinct(alloc, fields)
 }
 
 fn read_rules(alloc: Global, entry: &Entry) -> Result<Text, CfgFault>

@@ -9,7 +9,7 @@ ghost use Rattle.cfg_model.specs.Registers.{read_register, read_balance, balance
 ghost use Rattle.cfg_model.specs.Registers.{read_dimensions, read_resources};
 ghost use Rattle.cfg_model.specs.Sequences.{has_codes};
 
-use crate::element::{Element, distinct};
+use crate::element::{Element, all_distinct};
 use crate::group::FromEntry;
 use crate::walk::{Entry, entry_keys};
 use crate::{CfgFault, Config};
@@ -214,8 +214,7 @@ fn read_dimensions(alloc: Global, entry: &Entry) -> Result<List<Dimension>, CfgF
 {
     let dimensions = entry.elements(alloc, "dimensions")?;
     entry.at_most(alloc, "dimensions", DIMENSION_LIMIT, dimensions.len())?;
-    distinct(alloc, dimensions.as_slice())?;
-    Ok(dimensions)
+    all_distinct(alloc, dimensions)
 }
 
 #[tactic(auto, unfolding(crate::specs::Registers::read_resources))]
@@ -229,6 +228,5 @@ fn read_resources(alloc: Global, entry: &Entry) -> Result<List<Resource>, CfgFau
         return Err(entry.wrong(alloc, "resources"));
     }
     entry.at_most(alloc, "resources", RESOURCE_LIMIT, resources.len())?;
-    distinct(alloc, resources.as_slice())?;
-    Ok(resources)
+    all_distinct(alloc, resources)
 }

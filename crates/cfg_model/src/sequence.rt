@@ -14,7 +14,7 @@ ghost use Rattle.cfg_model.specs.Sequences.{has_head_code as head_code_known};
 ghost use Rattle.cfg_model.specs.Sequences.{has_code_dimension as code_dimension_known};
 ghost use Rattle.cfg_model.specs.Walk.{all_known};
 
-use crate::element::distinct;
+use crate::element::all_distinct;
 use crate::group::FromEntry;
 use crate::walk::{Entry, entry_keys, has_register, unknown};
 use crate::{CfgFault, Config, Kind, Register};
@@ -94,9 +94,8 @@ fn read_names(alloc: Global, entry: &Entry, key: &str) -> Result<List<Name>, Cfg
     ensures { let keys = table_view entry.now.keys.now in
         Gives Memory result (read_names entry.now.name.now key.now keys) }
 {
-    let names: List<Name> = entry.elements(alloc, key)?;
-    distinct(alloc, names.as_slice())?;
-    Ok(names)
+    let names = entry.elements(alloc, key)?;
+    all_distinct(alloc, names)
 }
 
 #[tactic(auto, unfolding(crate::specs::Sequences::read_some_names))]
@@ -105,12 +104,11 @@ fn read_some_names(alloc: Global, entry: &Entry, key: &str) -> Result<List<Name>
     ensures { let keys = table_view entry.now.keys.now in
         Gives Memory result (read_some_names entry.now.name.now key.now keys) }
 {
-    let names: List<Name> = entry.elements(alloc, key)?;
+    let names = entry.elements(alloc, key)?;
     if names.is_empty() {
         return Err(entry.wrong(alloc, key));
     }
-    distinct(alloc, names.as_slice())?;
-    Ok(names)
+    all_distinct(alloc, names)
 }
 
 #[tactic(auto, unfolding(crate::specs::Sequences::read_documents))]
