@@ -20,6 +20,10 @@ Shaped X = Result X WordFault
 unfoldable pub value_at : Member → List ℕ → Members → Shaped Data
 value_at m name object = some_or (get_member name object) (BadMember m)
 
+-- what an object has under a name, by its shape
+abbrev pub shape_at : {X : Type 0} → (Data → Shaped X) → Member → List ℕ → Members → Shaped X
+shape_at shape m name object = value_at m name object >>= shape
+
 -- an object
 unfoldable pub object_of : Member → Data → Shaped Members
 object_of m d = some_or (as_object d) (BadMember m)
@@ -69,6 +73,10 @@ number_of m d = do
 abbrev pub each_item : {X : Type 0} → (Data → Shaped X) → Items → Shaped (List X)
 each_item shape no_items = Ok []
 each_item shape (item d ds) = shape d >>= λ x. each_item shape ds >>= λ xs. Ok (x ∷ xs)
+
+-- a list, each item by its shape
+abbrev pub list_of : {X : Type 0} → (Data → Shaped X) → Member → Data → Shaped (List X)
+list_of shape m d = items_of m d >>= each_item shape
 
 -- a list of texts
 unfoldable pub texts_of : Member → Data → Shaped (List (List ℕ))

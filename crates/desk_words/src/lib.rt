@@ -22,6 +22,7 @@ mod reply;
 mod reply_values;
 mod request;
 mod request_values;
+mod sets;
 mod shapes;
 
 pub use fault::{Member, WordFault};

@@ -3,16 +3,18 @@ ghost use Rattle.std.specs.Prelude.{IfOk};
 ghost use Rattle.serde_json.specs.View.{members_view};
 ghost use Rattle.reg_base.specs.Results.{Gives, Says};
 ghost use Rattle.desk_words.specs.declared.fault.WordFault.TheVariants.{Memory, UnknownMember};
-ghost use Rattle.desk_words.specs.Reading.{operation_of, check_present, check_known, name_at, number_at, date_at, sets_at, cut_at, manual_of, balance_of, members_of, request_in, request_of_text, request};
+ghost use Rattle.desk_words.specs.Members.{member_name};
+ghost use Rattle.desk_words.specs.Shapes.{shape_at};
+ghost use Rattle.desk_words.specs.Reading.{operation_of, check_present, check_known, cut_at, manual_of, balance_of, members_of, request_in, request_of_text, request};
 ghost use Rattle.desk_words.specs.WellFormed.{IsRequest};
 
 use crate::fault::{Member, WordFault};
 use crate::members::{Operation, first_missing, first_unknown};
 use crate::parsed::{Object, document, member};
-use crate::request::{Balance, Manual, Request, SetText};
-use crate::shapes::{cut_of, date_of, name_of, number_of, sets_of, value_at};
+use crate::request::{Balance, Manual, Request};
+use crate::shapes::{FromJson, cut_of, read_at};
 use json_laws::value_has_utf8;
-use reg_base::{Cut, Date, List, Name, Text};
+use reg_base::{Cut, Text};
 use reg_io::Line;
 use std::alloc::Global;
 
@@ -101,7 +103,7 @@ fn members_of(alloc: Global, operation: Operation, object: &Object) -> Result<Re
 {
     match operation {
         Operation::Manual => Ok(Request::Manual(manual_of(alloc, object)?)),
-        Operation::Balance => Ok(Request::Balance(balance_of(object)?)),
+        Operation::Balance => Ok(Request::Balance(balance_of(alloc, object)?)),
     }
 }
 
@@ -109,10 +111,10 @@ fn members_of(alloc: Global, operation: Operation, object: &Object) -> Result<Re
 fn manual_of(alloc: Global, object: &Object) -> Result<Manual, WordFault>
     ensures { Gives Memory result (manual_of (members_view object.now.entries)) }
 {
-    let clerk = name_at(Member::Clerk, object)?;
-    let no = number_at(Member::No, object)?;
-    let date = date_at(Member::Date, object)?;
-    let sets = sets_at(alloc, Member::Sets, object)?;
+    let clerk = read_member(alloc, Member::Clerk, object)?;
+    let no = read_member(alloc, Member::No, object)?;
+    let date = read_member(alloc, Member::Date, object)?;
+    let sets = read_member(alloc, Member::Sets, object)?;
     Ok(Manual {
         clerk,
         no,
@@ -126,11 +128,11 @@ fn manual_of(alloc: Global, object: &Object) -> Result<Manual, WordFault>
 }
 
 #[tactic(auto, unfolding(crate::specs::Reading::balance_of))]
-fn balance_of(object: &Object) -> Result<Balance, WordFault>
+fn balance_of(alloc: Global, object: &Object) -> Result<Balance, WordFault>
     ensures { Gives Memory result (balance_of (members_view object.now.entries)) }
 {
-    let clerk = name_at(Member::Clerk, object)?;
-    let register = name_at(Member::Register, object)?;
+    let clerk = read_member(alloc, Member::Clerk, object)?;
+    let register = read_member(alloc, Member::Register, object)?;
     let cut = cut_at(object)?;
     Ok(Balance {
         clerk,
@@ -142,28 +144,12 @@ fn balance_of(object: &Object) -> Result<Balance, WordFault>
     })
 }
 
-fn name_at(member: Member, object: &Object) -> Result<Name, WordFault>
-    ensures { Gives Memory result (name_at member (members_view object.now.entries)) }
+/// What the object has at one of the members that an operation asks for.
+fn read_member<X: FromJson>(alloc: Global, member: Member, object: &Object) -> Result<X, WordFault>
+    ensures { Gives Memory result
+        (shape_at (X.reads member) member (member_name member) (members_view object.now.entries)) }
 {
-    name_of(member, value_at(member, member.name(), object)?)
-}
-
-fn number_at(member: Member, object: &Object) -> Result<u32, WordFault>
-    ensures { Gives Memory result (number_at member (members_view object.now.entries)) }
-{
-    number_of(member, value_at(member, member.name(), object)?)
-}
-
-fn date_at(member: Member, object: &Object) -> Result<Date, WordFault>
-    ensures { Gives Memory result (date_at member (members_view object.now.entries)) }
-{
-    date_of(member, value_at(member, member.name(), object)?)
-}
-
-fn sets_at(alloc: Global, member: Member, object: &Object) -> Result<List<SetText>, WordFault>
-    ensures { Gives Memory result (sets_at member (members_view object.now.entries)) }
-{
-    sets_of(alloc, member, value_at(member, member.name(), object)?)
+    read_at(alloc, member, member.name(), object)
 }
 
 /// The cut, where the member stands at all.

@@ -10,9 +10,7 @@ ghost use Rattle.serde_json.specs.Data.{put as member_put};
 use crate::fault::WordFault;
 use crate::parsed::Object;
 use crate::reply::{Answer, Refusal, Reply, entry_fault_number};
-use reg_base::{
-    Code, DocState, EntryFault, Memory, PostFault, Scale, SumRow, Value, sum_string,
-};
+use reg_base::{Code, DocState, EntryFault, Memory, PostFault, Scale, SumRow, Value, sum_string};
 use serde_json::{Value as Json, json, put};
 use std::alloc::Global;
 

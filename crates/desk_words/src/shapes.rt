@@ -1,26 +1,44 @@
 //! The shapes of members. A wrong one is told by the member that it stands in.
-ghost use Rattle.std.specs.Prelude.{◌≡◌, option_map};
-ghost use Rattle.serde_json.specs.Data.{Items};
+ghost use Rattle.std.specs.Prelude.{◌≡◌, Result, option_map};
+ghost use Rattle.serde_json.specs.Data.{Data};
 ghost use Rattle.serde_json.specs.View.{view, items_view, members_view};
 ghost use Rattle.reg_base.specs.Results.{some_or, Gives, GivesAs};
+ghost use Rattle.desk_words.specs.declared.fault.Member.{Member as MemberOf};
+ghost use Rattle.desk_words.specs.declared.fault.WordFault.{WordFault as FaultOf};
 ghost use Rattle.desk_words.specs.declared.fault.WordFault.TheVariants.{Memory};
-ghost use Rattle.desk_words.specs.Shapes.{value_at, object_of, items_of, text_of, name_of, code_of, date_of, cut_of, number_of, each_item, texts_of, codes_of};
-ghost use Rattle.desk_words.specs.Sets.{mark_of, side_of, side_from, register_record, ledger_record, record_of, records_of, set_of, sets_of};
+ghost use Rattle.desk_words.specs.Shapes.{value_at, shape_at, object_of, items_of, text_of, name_of, code_of, date_of, cut_of, number_of, list_of};
 
 use crate::fault::{Member, WordFault};
-use crate::parsed::{Object, count, member};
-use crate::request::{LedgerText, RecordText, RegisterText, SetText};
-use reg_base::{Code, Cut, Date, List, Mark, Name, Side, Text};
+use crate::parsed::{Object, member};
+use reg_base::{Code, Cut, Date, List, Name, Text};
 use serde_json::Value;
 use std::alloc::Global;
 
-/// What an object has under a name.
-#[tactic(auto, unfolding(crate::specs::Shapes::value_at))]
-pub(crate) fn value_at<'a>(
+/// What a JSON value is read as.
+pub(crate) trait FromJson: Drop {
+    ghost reads: { MemberOf → Data → Result Self FaultOf };
+
+    /// Reads a value that stands within a member.
+    fn from_json(alloc: Global, within: Member, value: &Value) -> Result<Self, WordFault>
+        ensures { Gives Memory result (reads within (view value.now)) };
+}
+
+/// Reads what an object has under a name.
+pub(crate) fn read_at<X: FromJson>(
+    alloc: Global,
     within: Member,
     name: &str,
-    object: &'a Object,
-) -> Result<&'a Value, WordFault>
+    object: &Object,
+) -> Result<X, WordFault>
+    ensures { Gives Memory result
+        (shape_at (X.reads within) within name.now (members_view object.now.entries)) }
+{
+    X::from_json(alloc, within, value_at(within, name, object)?)
+}
+
+/// What an object has under a name.
+#[tactic(auto, unfolding(crate::specs::Shapes::value_at))]
+fn value_at<'a>(within: Member, name: &str, object: &'a Object) -> Result<&'a Value, WordFault>
     ensures { GivesAs Memory (λ v. view v.now) result
         (value_at within name.now (members_view object.now.entries)) }
 {
@@ -31,7 +49,7 @@ pub(crate) fn value_at<'a>(
 }
 
 #[tactic(auto, unfolding(crate::specs::Shapes::object_of))]
-fn object_of(within: Member, value: &Value) -> Result<&Object, WordFault>
+pub(crate) fn object_of(within: Member, value: &Value) -> Result<&Object, WordFault>
     ensures { GivesAs Memory (λ v. members_view v.now.entries) result
         (object_of within (view value.now)) }
 {
@@ -52,8 +70,25 @@ fn items_of(within: Member, value: &Value) -> Result<&Vec<Value>, WordFault>
     }
 }
 
+/// The items of a list, each read by its shape.
+pub(crate) fn list_of<X: FromJson>(
+    alloc: Global,
+    within: Member,
+    value: &Value,
+) -> Result<List<X>, WordFault>
+    ensures { Gives Memory result (list_of (X.reads within) within (view value.now)) }
+{
+    let items = items_of(within, value)?;
+    let mut found = List::new(alloc);
+    'items: for item in items {
+        let next = X::from_json(alloc, within, item)?;
+        found.push(next)?;
+    }
+    Ok(found)
+}
+
 #[tactic(auto, unfolding(crate::specs::Shapes::text_of))]
-fn text_of(within: Member, value: &Value) -> Result<&str, WordFault>
+pub(crate) fn text_of(within: Member, value: &Value) -> Result<&str, WordFault>
     ensures { GivesAs Memory (λ s. s.now) result (text_of within (view value.now)) }
 {
     match value.as_str() {
@@ -62,36 +97,63 @@ fn text_of(within: Member, value: &Value) -> Result<&str, WordFault>
     }
 }
 
-#[tactic(auto, unfolding(crate::specs::Shapes::name_of))]
-pub(crate) fn name_of(within: Member, value: &Value) -> Result<Name, WordFault>
-    ensures { Gives Memory result (name_of within (view value.now)) }
-{
-    let text = text_of(within, value)?;
-    match Name::parse(text) {
-        Some(name) => Ok(name),
-        None => Err(WordFault::BadMember { member: within }),
+impl FromJson for Text {
+    ghost reads = { text_of };
+
+    fn from_json(alloc: Global, within: Member, value: &Value) -> Result<Text, WordFault> {
+        let text = text_of(within, value)?;
+        Ok(Text::from_str(alloc, text)?)
     }
 }
 
-#[tactic(auto, unfolding(crate::specs::Shapes::code_of))]
-fn code_of(within: Member, value: &Value) -> Result<Code, WordFault>
-    ensures { Gives Memory result (code_of within (view value.now)) }
-{
-    let text = text_of(within, value)?;
-    match Code::parse(text) {
-        Some(code) => Ok(code),
-        None => Err(WordFault::BadMember { member: within }),
+impl FromJson for Name {
+    ghost reads = { name_of };
+
+    #[tactic(auto, unfolding(crate::specs::Shapes::name_of))]
+    fn from_json(_alloc: Global, within: Member, value: &Value) -> Result<Name, WordFault> {
+        let text = text_of(within, value)?;
+        match Name::parse(text) {
+            Some(name) => Ok(name),
+            None => Err(WordFault::BadMember { member: within }),
+        }
     }
 }
 
-#[tactic(auto, unfolding(crate::specs::Shapes::date_of))]
-pub(crate) fn date_of(within: Member, value: &Value) -> Result<Date, WordFault>
-    ensures { Gives Memory result (date_of within (view value.now)) }
-{
-    let text = text_of(within, value)?;
-    match Date::parse(text) {
-        Ok(date) => Ok(date),
-        Err(_) => Err(WordFault::BadMember { member: within }),
+impl FromJson for Code {
+    ghost reads = { code_of };
+
+    #[tactic(auto, unfolding(crate::specs::Shapes::code_of))]
+    fn from_json(_alloc: Global, within: Member, value: &Value) -> Result<Code, WordFault> {
+        let text = text_of(within, value)?;
+        match Code::parse(text) {
+            Some(code) => Ok(code),
+            None => Err(WordFault::BadMember { member: within }),
+        }
+    }
+}
+
+impl FromJson for Date {
+    ghost reads = { date_of };
+
+    #[tactic(auto, unfolding(crate::specs::Shapes::date_of))]
+    fn from_json(_alloc: Global, within: Member, value: &Value) -> Result<Date, WordFault> {
+        let text = text_of(within, value)?;
+        match Date::parse(text) {
+            Ok(date) => Ok(date),
+            Err(_) => Err(WordFault::BadMember { member: within }),
+        }
+    }
+}
+
+impl FromJson for u32 {
+    ghost reads = { number_of };
+
+    #[tactic(auto, unfolding(crate::specs::Shapes::number_of))]
+    fn from_json(_alloc: Global, within: Member, value: &Value) -> Result<u32, WordFault> {
+        match value.as_u64() {
+            Some(n) if n >= 1 && n <= 4_294_967_295 => Ok(n as u32),
+            _ => Err(WordFault::BadMember { member: within }),
+        }
     }
 }
 
@@ -104,166 +166,4 @@ pub(crate) fn cut_of(within: Member, value: &Value) -> Result<Cut, WordFault>
         Ok(cut) => Ok(cut),
         Err(_) => Err(WordFault::BadMember { member: within }),
     }
-}
-
-#[tactic(auto, unfolding(crate::specs::Shapes::number_of))]
-pub(crate) fn number_of(within: Member, value: &Value) -> Result<u32, WordFault>
-    ensures { Gives Memory result (number_of within (view value.now)) }
-{
-    match value.as_u64() {
-        Some(n) if n >= 1 && n <= 4_294_967_295 => Ok(n as u32),
-        _ => Err(WordFault::BadMember { member: within }),
-    }
-}
-
-#[tactic(auto, unfolding(crate::specs::Shapes::texts_of))]
-fn texts_of(alloc: Global, within: Member, value: &Value) -> Result<List<Text>, WordFault>
-    ensures { Gives Memory result (texts_of within (view value.now)) }
-{
-    let items = items_of(within, value)?;
-    let mut texts = List::new(alloc);
-    'items: for item in items {
-        let text = text_of(within, item)?;
-        texts.push(Text::from_str(alloc, text)?)?;
-    }
-    Ok(texts)
-}
-
-#[tactic(auto, unfolding(crate::specs::Shapes::codes_of))]
-fn codes_of(alloc: Global, within: Member, value: &Value) -> Result<Vec<Code>, WordFault>
-    ensures { GivesAs Memory (λ v. v.items) result (codes_of within (view value.now)) }
-{
-    let items = items_of(within, value)?;
-    let mut codes = Vec::new(alloc);
-    'items: for item in items {
-        let code = code_of(within, item)?;
-        codes.push(code)?;
-    }
-    Ok(codes)
-}
-
-#[tactic(auto, unfolding(crate::specs::Sets::mark_of))]
-fn mark_of(within: Member, value: &Value) -> Result<Mark, WordFault>
-    ensures { Gives Memory result (mark_of within (view value.now)) }
-{
-    match text_of(within, value)? {
-        "receipt" => Ok(Mark::Receipt),
-        "expense" => Ok(Mark::Expense),
-        "turn" => Ok(Mark::Turn),
-        _ => Err(WordFault::BadMember { member: within }),
-    }
-}
-
-/// The first code is the account, the others its extras.
-fn side_from(alloc: Global, within: Member, codes: &[Code]) -> Result<Side, WordFault>
-    ensures { Gives Memory result (side_from within codes.now) }
-{
-    match codes.split_first() {
-        Some((account, extras)) => Ok(Side {
-            account: *account,
-            extras: List::from_slice(alloc, extras)?,
-        }),
-        None => Err(WordFault::BadMember { member: within }),
-    }
-}
-
-/// Null where the side is absent.
-#[tactic(auto, unfolding(crate::specs::Sets::side_of))]
-fn side_of(alloc: Global, within: Member, value: &Value) -> Result<Option<Side>, WordFault>
-    ensures { Gives Memory result (side_of within (view value.now)) }
-{
-    if value.is_null() {
-        return Ok(None);
-    }
-    let codes = codes_of(alloc, within, value)?;
-    Ok(Some(side_from(alloc, within, &codes)?))
-}
-
-#[tactic(auto, unfolding(crate::specs::Sets::register_record))]
-fn register_record(
-    alloc: Global,
-    within: Member,
-    object: &Object,
-) -> Result<RegisterText, WordFault>
-    ensures { Gives Memory result (register_record within (members_view object.now.entries)) }
-{
-    if count(object) != 3 {
-        return Err(WordFault::BadMember { member: within });
-    }
-    let mark = mark_of(within, value_at(within, "kind", object)?)?;
-    let sums = texts_of(alloc, within, value_at(within, "sums", object)?)?;
-    let values = texts_of(alloc, within, value_at(within, "values", object)?)?;
-    Ok(RegisterText { mark, sums, values })
-}
-
-#[tactic(auto, unfolding(crate::specs::Sets::ledger_record))]
-fn ledger_record(alloc: Global, within: Member, object: &Object) -> Result<LedgerText, WordFault>
-    ensures { Gives Memory result (ledger_record within (members_view object.now.entries)) }
-{
-    if count(object) != 3 {
-        return Err(WordFault::BadMember { member: within });
-    }
-    let amount = Text::from_str(alloc, text_of(within, value_at(within, "amount", object)?)?)?;
-    let credit = side_of(alloc, within, value_at(within, "credit", object)?)?;
-    let debit = side_of(alloc, within, value_at(within, "debit", object)?)?;
-    Ok(LedgerText {
-        amount,
-        debit,
-        credit,
-    })
-}
-
-/// A record with an amount is one of a ledger.
-#[tactic(auto, unfolding(crate::specs::Sets::record_of))]
-fn record_of(alloc: Global, within: Member, value: &Value) -> Result<RecordText, WordFault>
-    ensures { Gives Memory result (record_of within (view value.now)) }
-{
-    let object = object_of(within, value)?;
-    match member(object, "amount") {
-        Some(_) => Ok(RecordText::Ledger(ledger_record(alloc, within, object)?)),
-        None => Ok(RecordText::Register(register_record(alloc, within, object)?)),
-    }
-}
-
-#[tactic(auto, unfolding(crate::specs::Sets::records_of))]
-fn records_of(alloc: Global, within: Member, value: &Value) -> Result<List<RecordText>, WordFault>
-    ensures { Gives Memory result (records_of within (view value.now)) }
-{
-    let items = items_of(within, value)?;
-    let mut records = List::new(alloc);
-    'items: for item in items {
-        let next = record_of(alloc, within, item)?;
-        records.push(next)?;
-    }
-    Ok(records)
-}
-
-#[tactic(auto, unfolding(crate::specs::Sets::set_of))]
-fn set_of(alloc: Global, within: Member, value: &Value) -> Result<SetText, WordFault>
-    ensures { Gives Memory result (set_of within (view value.now)) }
-{
-    let object = object_of(within, value)?;
-    if count(object) != 2 {
-        return Err(WordFault::BadMember { member: within });
-    }
-    let space = name_of(within, value_at(within, "space", object)?)?;
-    let records = records_of(alloc, within, value_at(within, "records", object)?)?;
-    Ok(SetText { space, records })
-}
-
-#[tactic(auto, unfolding(crate::specs::Sets::sets_of))]
-pub(crate) fn sets_of(
-    alloc: Global,
-    within: Member,
-    value: &Value,
-) -> Result<List<SetText>, WordFault>
-    ensures { Gives Memory result (sets_of within (view value.now)) }
-{
-    let items = items_of(within, value)?;
-    let mut sets = List::new(alloc);
-    'items: for item in items {
-        let next = set_of(alloc, within, item)?;
-        sets.push(next)?;
-    }
-    Ok(sets)
 }
