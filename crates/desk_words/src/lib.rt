@@ -24,6 +24,7 @@ mod request;
 mod request_values;
 mod sets;
 mod shapes;
+mod to_json;
 
 pub use fault::{Member, WordFault};
 pub use laws::requests_read_back;

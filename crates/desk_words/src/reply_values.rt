@@ -10,8 +10,11 @@ ghost use Rattle.serde_json.specs.Data.{put as member_put};
 use crate::fault::WordFault;
 use crate::parsed::Object;
 use crate::reply::{Answer, Refusal, Reply, entry_fault_number};
-use reg_base::{Code, DocState, EntryFault, Memory, PostFault, Scale, SumRow, Value, sum_string};
-use serde_json::{Value as Json, json, put};
+use crate::to_json::{ToJson, array_value, put_text, put_value};
+use reg_base::{
+    Code, DocState, EntryFault, List, Memory, PostFault, Scale, SumRow, Value, sum_string,
+};
+use serde_json::{Value as Json, put};
 use std::alloc::Global;
 
 /// A reply as JSON.
@@ -61,8 +64,11 @@ fn answer_value(alloc: Global, answer: &Answer) -> Result<Json, Memory>
 fn document_value(alloc: Global, active: bool, doc: u32, state: DocState) -> Result<Json, Memory>
     ensures { IfOk result (λ v. view v ≡ document_data active doc state) }
 {
-    let state = state_name(state);
-    Ok(json!(in alloc; {"active": active, "doc": doc, "state": state})?)
+    let mut members = Object::new(alloc);
+    put_value(alloc, &mut members, "active", &active)?;
+    put_value(alloc, &mut members, "doc", &doc)?;
+    put_text(alloc, &mut members, "state", state_name(state))?;
+    Ok(Json::Object(members))
 }
 
 fn state_name(state: DocState) -> &'static str
@@ -90,23 +96,32 @@ fn rows_value(alloc: Global, rows: &[SumRow], scales: &[Scale]) -> Result<Json, 
 fn row_value(alloc: Global, row: &SumRow, scales: &[Scale]) -> Result<Json, Memory>
     ensures { IfOk result (λ v. view v ≡ row_data scales.now row.now) }
 {
-    let group = group_value(alloc, row.group.as_slice())?;
-    let sums = sums_value(alloc, row.sums.as_slice(), scales)?;
     let mut members = Object::new(alloc);
-    put(&mut members, alloc, "group", group)?;
-    put(&mut members, alloc, "sums", sums)?;
+    put_value(alloc, &mut members, "group", &row.group)?;
+    put(
+        &mut members,
+        alloc,
+        "sums",
+        sums_value(alloc, row.sums.as_slice(), scales)?,
+    )?;
     Ok(Json::Object(members))
 }
 
-#[tactic(auto, unfolding(crate::specs::ReplyTexts::texts_data))]
-fn group_value(alloc: Global, group: &[Value]) -> Result<Json, Memory>
-    ensures { IfOk result (λ v. view v ≡ texts_data (map value_text_of group.now)) }
-{
-    let mut texts = Vec::new(alloc);
-    'values: for value in group {
-        texts.push(Json::String(value_text(alloc, value)?))?;
+impl ToJson for List<Value> {
+    ghost json = { λ group. texts_data (map value_text_of group) };
+
+    #[tactic(auto, unfolding(crate::specs::ReplyTexts::texts_data))]
+    fn to_json(&self, alloc: Global) -> Result<Json, Memory> {
+        array_value(alloc, self.as_slice())
     }
-    Ok(Json::Array(texts))
+}
+
+impl ToJson for Value {
+    ghost json = { λ value. string (value_text_of value) };
+
+    fn to_json(&self, alloc: Global) -> Result<Json, Memory> {
+        Ok(Json::String(value_text(alloc, self)?))
+    }
 }
 
 fn value_text(alloc: Global, value: &Value) -> Result<String, Memory>
@@ -135,7 +150,7 @@ fn refusal_value(alloc: Global, refusal: &Refusal) -> Result<Json, Memory>
 {
     let mut members = refusal_detail(alloc, refusal)?;
     put(&mut members, alloc, "code", Json::from(refusal.number()))?;
-    put(&mut members, alloc, "name", text(alloc, refusal.name())?)?;
+    put_text(alloc, &mut members, "name", refusal.name())?;
     Ok(Json::Object(members))
 }
 
@@ -190,7 +205,7 @@ fn broken_members(alloc: Global, rule: u32, line: u32, code: &Code) -> Result<Ob
         ≡ member_put (codes "text") (string code.now) (fault_at 1 rule line)) }
 {
     let mut members = fault_at(alloc, 1, rule, line)?;
-    put(&mut members, alloc, "text", text(alloc, code.as_str())?)?;
+    put_value(alloc, &mut members, "text", code)?;
     Ok(members)
 }
 
@@ -205,8 +220,8 @@ fn shortage_members(
         (string (missing_text_of scale missing)) (fault_at 2 rule line)) }
 {
     let mut members = fault_at(alloc, 2, rule, line)?;
-    let missing = Json::String(missing_text(alloc, scale, missing)?);
-    put(&mut members, alloc, "missing", missing)?;
+    let missing = missing_text(alloc, scale, missing)?;
+    put(&mut members, alloc, "missing", Json::String(missing))?;
     Ok(members)
 }
 
@@ -241,7 +256,7 @@ fn limit_members(alloc: Global, which: &str, number: u64) -> Result<Object, Memo
         (member (codes "which") (string which.now) no_members)) }
 {
     let mut members = whole_member(alloc, "number", number)?;
-    put(&mut members, alloc, "which", text(alloc, which)?)?;
+    put_text(alloc, &mut members, "which", which)?;
     Ok(members)
 }
 
@@ -283,12 +298,6 @@ fn text_member(alloc: Global, name: &str, value: &str) -> Result<Object, Memory>
         ≡ member name.now (string value.now) no_members) }
 {
     let mut members = Object::new(alloc);
-    put(&mut members, alloc, name, text(alloc, value)?)?;
+    put_text(alloc, &mut members, name, value)?;
     Ok(members)
-}
-
-pub(crate) fn text(alloc: Global, value: &str) -> Result<Json, Memory>
-    ensures { IfOk result (λ v. view v ≡ string value.now) }
-{
-    Ok(Json::String(String::from_str(alloc, value)?))
 }

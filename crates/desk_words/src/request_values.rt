@@ -1,18 +1,17 @@
 //! Requests as JSON.
-ghost use Rattle.std.specs.Prelude.{◌≡◌, Some, option_map, map, codes, IfOk, OnOk};
-ghost use Rattle.serde_json.specs.Data.{string, array};
+ghost use Rattle.std.specs.Prelude.{◌≡◌, Some, map, IfOk};
+ghost use Rattle.serde_json.specs.Data.{array};
 ghost use Rattle.serde_json.specs.View.{view, items_of, members_view};
-ghost use Rattle.reg_base.specs.Cuts.{cut_text};
-ghost use Rattle.desk_words.specs.ReplyTexts.{whole, texts_data};
-ghost use Rattle.desk_words.specs.RequestTexts.{mark_name as mark_name_of, side_data, register_data, ledger_data, record_data, set_data, sets_data, filters_data, put_if, manual_frame, manual_members, balance_frame, balance_members, request_data};
+ghost use Rattle.desk_words.specs.ReplyTexts.{texts_data};
+ghost use Rattle.desk_words.specs.RequestTexts.{mark_name as mark_name_of, side_data, register_data, ledger_data, record_data, set_data, sets_data, filters_data, manual_frame, manual_members, balance_frame, balance_members, request_data};
 
 use crate::parsed::Object;
-use crate::reply_values::text;
 use crate::request::{
     Balance, FilterText, LedgerText, Manual, RecordText, RegisterText, Request, SetText,
 };
-use reg_base::{Code, Comment, Cut, List, Mark, Memory, Name, Side, Text};
-use serde_json::{Value as Json, put};
+use crate::to_json::{ToJson, array_value, put_some, put_text, put_value, text};
+use reg_base::{List, Mark, Memory, Side};
+use serde_json::Value as Json;
 use std::alloc::Global;
 
 /// A request as JSON.
@@ -31,10 +30,10 @@ fn manual_members(alloc: Global, manual: &Manual) -> Result<Object, Memory>
     ensures { IfOk result (λ m. members_view m.entries ≡ manual_members manual.now) }
 {
     let mut members = manual_frame(alloc, manual)?;
-    put_number(alloc, &mut members, "doc", manual.doc)?;
-    put_key(alloc, &mut members, manual.key)?;
-    put_comment(alloc, &mut members, &manual.comment)?;
-    put_slot(alloc, &mut members, manual.tx)?;
+    put_some(alloc, &mut members, "doc", &manual.doc)?;
+    put_some(alloc, &mut members, "key", &manual.key)?;
+    put_some(alloc, &mut members, "comment", &manual.comment)?;
+    put_some(alloc, &mut members, "tx", &manual.tx)?;
     Ok(members)
 }
 
@@ -43,15 +42,12 @@ fn manual_members(alloc: Global, manual: &Manual) -> Result<Object, Memory>
 fn manual_frame(alloc: Global, manual: &Manual) -> Result<Object, Memory>
     ensures { IfOk result (λ m. members_view m.entries ≡ manual_frame manual.now) }
 {
-    let clerk = text(alloc, manual.clerk.as_str())?;
-    let date = Json::String(manual.date.to_text(alloc)?);
-    let sets = sets_value(alloc, manual.sets.as_slice())?;
     let mut members = Object::new(alloc);
-    put(&mut members, alloc, "clerk", clerk)?;
-    put(&mut members, alloc, "date", date)?;
-    put(&mut members, alloc, "no", Json::from(manual.no))?;
-    put(&mut members, alloc, "op", text(alloc, "manual")?)?;
-    put(&mut members, alloc, "sets", sets)?;
+    put_value(alloc, &mut members, "clerk", &manual.clerk)?;
+    put_value(alloc, &mut members, "date", &manual.date)?;
+    put_value(alloc, &mut members, "no", &manual.no)?;
+    put_text(alloc, &mut members, "op", "manual")?;
+    put_value(alloc, &mut members, "sets", &manual.sets)?;
     Ok(members)
 }
 
@@ -60,10 +56,10 @@ fn balance_members(alloc: Global, balance: &Balance) -> Result<Object, Memory>
     ensures { IfOk result (λ m. members_view m.entries ≡ balance_members balance.now) }
 {
     let mut members = balance_frame(alloc, balance)?;
-    put_filter(alloc, &mut members, &balance.filter)?;
-    put_group(alloc, &mut members, &balance.group)?;
-    put_cut(alloc, &mut members, balance.cut)?;
-    put_slot(alloc, &mut members, balance.tx)?;
+    put_some(alloc, &mut members, "filter", &balance.filter)?;
+    put_some(alloc, &mut members, "group", &balance.group)?;
+    put_some(alloc, &mut members, "cut", &balance.cut)?;
+    put_some(alloc, &mut members, "tx", &balance.tx)?;
     Ok(members)
 }
 
@@ -72,158 +68,63 @@ fn balance_members(alloc: Global, balance: &Balance) -> Result<Object, Memory>
 fn balance_frame(alloc: Global, balance: &Balance) -> Result<Object, Memory>
     ensures { IfOk result (λ m. members_view m.entries ≡ balance_frame balance.now) }
 {
-    let clerk = text(alloc, balance.clerk.as_str())?;
-    let register = text(alloc, balance.register.as_str())?;
     let mut members = Object::new(alloc);
-    put(&mut members, alloc, "clerk", clerk)?;
-    put(&mut members, alloc, "op", text(alloc, "balance")?)?;
-    put(&mut members, alloc, "register", register)?;
+    put_value(alloc, &mut members, "clerk", &balance.clerk)?;
+    put_text(alloc, &mut members, "op", "balance")?;
+    put_value(alloc, &mut members, "register", &balance.register)?;
     Ok(members)
 }
 
-fn put_number(
-    alloc: Global,
-    members: &mut Object,
-    name: &str,
-    number: Option<u32>,
-) -> Result<(), Memory>
-    ensures { OnOk result (members_view members.new.entries
-        ≡ put_if name.now (option_map whole number) (members_view members.old.entries)) }
-{
-    if let Some(number) = number {
-        put(members, alloc, name, Json::from(number))?;
+impl ToJson for List<FilterText> {
+    ghost json = { filters_data };
+
+    /// An object with the values of each name, a name that comes twice with its later ones.
+    fn to_json(&self, alloc: Global) -> Result<Json, Memory> {
+        let mut members = Object::new(alloc);
+        'filters: for filter in self.as_slice() {
+            put_value(alloc, &mut members, filter.name.as_str(), &filter.values)?;
+        }
+        Ok(Json::Object(members))
     }
-    Ok(())
 }
 
-fn put_slot(alloc: Global, members: &mut Object, tx: Option<u8>) -> Result<(), Memory>
-    ensures { OnOk result (members_view members.new.entries
-        ≡ put_if (codes "tx") (option_map whole tx) (members_view members.old.entries)) }
-{
-    if let Some(tx) = tx {
-        put(members, alloc, "tx", Json::from(tx))?;
+impl ToJson for List<SetText> {
+    ghost json = { sets_data };
+
+    #[tactic(auto, unfolding(crate::specs::RequestTexts::sets_data))]
+    fn to_json(&self, alloc: Global) -> Result<Json, Memory> {
+        array_value(alloc, self.as_slice())
     }
-    Ok(())
 }
 
-fn put_key(alloc: Global, members: &mut Object, key: Option<Code>) -> Result<(), Memory>
-    ensures { OnOk result (members_view members.new.entries
-        ≡ put_if (codes "key") (option_map string key) (members_view members.old.entries)) }
-{
-    if let Some(key) = key {
-        put(members, alloc, "key", text(alloc, key.as_str())?)?;
+impl ToJson for SetText {
+    ghost json = { set_data };
+
+    #[tactic(auto, unfolding(crate::specs::RequestTexts::set_data))]
+    fn to_json(&self, alloc: Global) -> Result<Json, Memory> {
+        let mut members = Object::new(alloc);
+        put_value(alloc, &mut members, "records", &self.records)?;
+        put_value(alloc, &mut members, "space", &self.space)?;
+        Ok(Json::Object(members))
     }
-    Ok(())
 }
 
-fn put_comment(alloc: Global, members: &mut Object, comment: &Option<Comment>) -> Result<(), Memory>
-    ensures { OnOk result (members_view members.new.entries
-        ≡ put_if (codes "comment") (option_map string comment.now)
-        (members_view members.old.entries)) }
-{
-    if let Some(comment) = comment {
-        put(members, alloc, "comment", text(alloc, comment.as_str())?)?;
+impl ToJson for List<RecordText> {
+    ghost json = { λ records. array (items_of (map record_data records)) };
+
+    fn to_json(&self, alloc: Global) -> Result<Json, Memory> {
+        array_value(alloc, self.as_slice())
     }
-    Ok(())
 }
 
-fn put_cut(alloc: Global, members: &mut Object, cut: Option<Cut>) -> Result<(), Memory>
-    ensures { OnOk result (members_view members.new.entries
-        ≡ put_if (codes "cut") (option_map (λ cut. string (cut_text cut)) cut)
-        (members_view members.old.entries)) }
-{
-    if let Some(cut) = cut {
-        put(members, alloc, "cut", Json::String(cut.to_text(alloc)?))?;
-    }
-    Ok(())
-}
+impl ToJson for RecordText {
+    ghost json = { record_data };
 
-fn put_group(alloc: Global, members: &mut Object, group: &Option<List<Name>>) -> Result<(), Memory>
-    ensures { OnOk result (members_view members.new.entries
-        ≡ put_if (codes "group") (option_map texts_data group.now)
-        (members_view members.old.entries)) }
-{
-    if let Some(group) = group {
-        put(
-            members,
-            alloc,
-            "group",
-            names_value(alloc, group.as_slice())?,
-        )?;
-    }
-    Ok(())
-}
-
-fn put_filter(
-    alloc: Global,
-    members: &mut Object,
-    filter: &Option<List<FilterText>>,
-) -> Result<(), Memory>
-    ensures { OnOk result (members_view members.new.entries
-        ≡ put_if (codes "filter") (option_map filters_data filter.now)
-        (members_view members.old.entries)) }
-{
-    if let Some(filter) = filter {
-        put(
-            members,
-            alloc,
-            "filter",
-            filters_value(alloc, filter.as_slice())?,
-        )?;
-    }
-    Ok(())
-}
-
-fn filters_value(alloc: Global, filters: &[FilterText]) -> Result<Json, Memory>
-    ensures { IfOk result (λ v. view v ≡ filters_data filters.now) }
-{
-    let mut members = Object::new(alloc);
-    'filters: for filter in filters {
-        let values = texts_value(alloc, filter.values.as_slice())?;
-        put(&mut members, alloc, filter.name.as_str(), values)?;
-    }
-    Ok(Json::Object(members))
-}
-
-#[tactic(auto, unfolding(crate::specs::RequestTexts::sets_data))]
-fn sets_value(alloc: Global, sets: &[SetText]) -> Result<Json, Memory>
-    ensures { IfOk result (λ v. view v ≡ sets_data sets.now) }
-{
-    let mut values = Vec::new(alloc);
-    'sets: for set in sets {
-        values.push(set_value(alloc, set)?)?;
-    }
-    Ok(Json::Array(values))
-}
-
-#[tactic(auto, unfolding(crate::specs::RequestTexts::set_data))]
-fn set_value(alloc: Global, set: &SetText) -> Result<Json, Memory>
-    ensures { IfOk result (λ v. view v ≡ set_data set.now) }
-{
-    let records = records_value(alloc, set.records.as_slice())?;
-    let space = text(alloc, set.space.as_str())?;
-    let mut members = Object::new(alloc);
-    put(&mut members, alloc, "records", records)?;
-    put(&mut members, alloc, "space", space)?;
-    Ok(Json::Object(members))
-}
-
-fn records_value(alloc: Global, records: &[RecordText]) -> Result<Json, Memory>
-    ensures { IfOk result (λ v. view v ≡ array (items_of (map record_data records.now))) }
-{
-    let mut values = Vec::new(alloc);
-    'records: for record in records {
-        values.push(record_value(alloc, record)?)?;
-    }
-    Ok(Json::Array(values))
-}
-
-fn record_value(alloc: Global, given: &RecordText) -> Result<Json, Memory>
-    ensures { IfOk result (λ v. view v ≡ record_data given.now) }
-{
-    match given {
-        RecordText::Register(text) => register_value(alloc, text),
-        RecordText::Ledger(text) => ledger_value(alloc, text),
+    fn to_json(&self, alloc: Global) -> Result<Json, Memory> {
+        match self {
+            RecordText::Register(text) => register_value(alloc, text),
+            RecordText::Ledger(text) => ledger_value(alloc, text),
+        }
     }
 }
 
@@ -231,13 +132,10 @@ fn record_value(alloc: Global, given: &RecordText) -> Result<Json, Memory>
 fn register_value(alloc: Global, given: &RegisterText) -> Result<Json, Memory>
     ensures { IfOk result (λ v. view v ≡ register_data given.now) }
 {
-    let mark = text(alloc, mark_name(given.mark))?;
-    let sums = texts_value(alloc, given.sums.as_slice())?;
-    let values = texts_value(alloc, given.values.as_slice())?;
     let mut members = Object::new(alloc);
-    put(&mut members, alloc, "kind", mark)?;
-    put(&mut members, alloc, "sums", sums)?;
-    put(&mut members, alloc, "values", values)?;
+    put_text(alloc, &mut members, "kind", mark_name(given.mark))?;
+    put_value(alloc, &mut members, "sums", &given.sums)?;
+    put_value(alloc, &mut members, "values", &given.values)?;
     Ok(Json::Object(members))
 }
 
@@ -255,23 +153,22 @@ fn mark_name(mark: Mark) -> &'static str
 fn ledger_value(alloc: Global, given: &LedgerText) -> Result<Json, Memory>
     ensures { IfOk result (λ v. view v ≡ ledger_data given.now) }
 {
-    let amount = text(alloc, given.amount.as_str())?;
-    let credit = side_value(alloc, &given.credit)?;
-    let debit = side_value(alloc, &given.debit)?;
     let mut members = Object::new(alloc);
-    put(&mut members, alloc, "amount", amount)?;
-    put(&mut members, alloc, "credit", credit)?;
-    put(&mut members, alloc, "debit", debit)?;
+    put_value(alloc, &mut members, "amount", &given.amount)?;
+    put_value(alloc, &mut members, "credit", &given.credit)?;
+    put_value(alloc, &mut members, "debit", &given.debit)?;
     Ok(Json::Object(members))
 }
 
-/// The account and its extras, or null where the side is absent.
-fn side_value(alloc: Global, side: &Option<Side>) -> Result<Json, Memory>
-    ensures { IfOk result (λ v. view v ≡ side_data side.now) }
-{
-    match side {
-        Some(side) => account_value(alloc, side),
-        None => Ok(Json::Null),
+impl ToJson for Option<Side> {
+    ghost json = { side_data };
+
+    /// The account and its extras, or null where the side is absent.
+    fn to_json(&self, alloc: Global) -> Result<Json, Memory> {
+        match self {
+            Some(side) => account_value(alloc, side),
+            None => Ok(Json::Null),
+        }
     }
 }
 
@@ -285,26 +182,4 @@ fn account_value(alloc: Global, side: &Side) -> Result<Json, Memory>
         texts.push(text(alloc, extra.as_str())?)?;
     }
     Ok(Json::Array(texts))
-}
-
-#[tactic(auto, unfolding(crate::specs::ReplyTexts::texts_data))]
-fn texts_value(alloc: Global, texts: &[Text]) -> Result<Json, Memory>
-    ensures { IfOk result (λ v. view v ≡ texts_data texts.now) }
-{
-    let mut values = Vec::new(alloc);
-    'texts: for given in texts {
-        values.push(text(alloc, given.as_str())?)?;
-    }
-    Ok(Json::Array(values))
-}
-
-#[tactic(auto, unfolding(crate::specs::ReplyTexts::texts_data))]
-fn names_value(alloc: Global, names: &[Name]) -> Result<Json, Memory>
-    ensures { IfOk result (λ v. view v ≡ texts_data names.now) }
-{
-    let mut values = Vec::new(alloc);
-    'names: for name in names {
-        values.push(text(alloc, name.as_str())?)?;
-    }
-    Ok(Json::Array(values))
 }
