@@ -9,7 +9,7 @@ use crate::parsed::Object;
 use crate::request::{
     Balance, FilterText, LedgerText, Manual, RecordText, RegisterText, Request, SetText,
 };
-use crate::to_json::{ToJson, array_value, put_some, put_text, put_value, text};
+use crate::to_json::{ToJson, array_value, push_items, put_some, put_text, put_value, text};
 use reg_base::{List, Mark, Memory, Side};
 use serde_json::Value as Json;
 use std::alloc::Global;
@@ -178,8 +178,6 @@ fn account_value(alloc: Global, side: &Side) -> Result<Json, Memory>
 {
     let mut texts = Vec::new(alloc);
     texts.push(text(alloc, side.account.as_str())?)?;
-    'extras: for extra in side.extras.as_slice() {
-        texts.push(text(alloc, extra.as_str())?)?;
-    }
+    push_items(alloc, &mut texts, side.extras.as_slice())?;
     Ok(Json::Array(texts))
 }

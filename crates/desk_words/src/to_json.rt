@@ -1,5 +1,5 @@
 //! What is printed as JSON, alone, in a list, or as a member.
-ghost use Rattle.std.specs.Prelude.{◌≡◌, map, option_map, IfOk, OnOk};
+ghost use Rattle.std.specs.Prelude.{◌≡◌, ◌++◌, map, option_map, IfOk, OnOk};
 ghost use Rattle.serde_json.specs.Data.{Data, boolean, string, array};
 ghost use Rattle.serde_json.specs.Data.{put as member_put};
 ghost use Rattle.serde_json.specs.View.{view, items_of, members_view};
@@ -70,10 +70,23 @@ pub(crate) fn array_value<T: ToJson>(alloc: Global, items: &[T]) -> Result<Json,
     ensures { IfOk result (λ v. view v ≡ array (items_of (map T.json items.now))) }
 {
     let mut values = Vec::new(alloc);
+    push_items(alloc, &mut values, items)?;
+    Ok(Json::Array(values))
+}
+
+/// Puts the values of a list behind those that stand.
+pub(crate) fn push_items<T: ToJson>(
+    alloc: Global,
+    values: &mut Vec<Json>,
+    items: &[T],
+) -> Result<(), Memory>
+    ensures { OnOk result (map view values.new.items
+        ≡ map view values.old.items ++ map T.json items.now) }
+{
     'items: for item in items {
         values.push(item.to_json(alloc)?)?;
     }
-    Ok(Json::Array(values))
+    Ok(())
 }
 
 pub(crate) fn text(alloc: Global, value: &str) -> Result<Json, Memory>
