@@ -1,5 +1,5 @@
 -- What a line comes to is what is answered to it.
-use Rattle.std.proofs.Common.{◌≡◌, ℕ, Bool, true, false, cond, Some, None, [], ◌∷◌, ◌++◌, Vec, Result, Ok, Err, refl, ap, ◌∙◌, sym}
+use Rattle.std.proofs.Common.{◌≡◌, ℕ, Bool, true, false, cond, Option, Some, None, [], ◌∷◌, ◌++◌, Vec, Result, Ok, Err, refl, ap, ◌∙◌, sym}
 use Rattle.std.specs.declared.alloc.Global.{Global}
 use Rattle.std.specs.Option.{ForSome}
 use Rattle.reg_io.specs.declared.line.Line.{Line}
@@ -12,6 +12,7 @@ use Rattle.desk_words.specs.declared.reply.Refusal.TheVariants.{UnknownClerk}
 use Rattle.desk_words.specs.Reading.{request}
 use Rattle.desk_words.specs.ReplyTexts.{reply_text}
 use Rattle.desk_core.specs.declared.work.Outcome.{Outcome}
+use Rattle.desk_core.specs.declared.work.Work.{Work}
 use Rattle.desk_core.specs.State.{Desk}
 use Rattle.desk_core.specs.Meanings.{meaning_of}
 use Rattle.desk_core.specs.Serial.{is_batch}
@@ -66,16 +67,16 @@ AnswersLine-blank o line blank = record {
 }
 
 -- another line is answered by the reply of what it comes to, whose work is taken over
-pub AnswersLine-reply : (o : Opened) (line : Line) (out : Outcome) (text : Vec ℕ Global) (new : Opened) → is_blank line ≡ false → out ≡ outcome_of_line o line → text.items ≡ reply_text out.reply ++ 10 ∷ [] → new ≡ record { setting = o.setting; desk = desk_with o.desk out.work } → AnswersLine o line (Some text) new
+pub AnswersLine-reply : (o : Opened) (line : Line) (text : Vec ℕ Global) (work : Option Work) (new : Opened) → is_blank line ≡ false → text.items ≡ reply_text (outcome_of_line o line).reply ++ 10 ∷ [] → work ≡ (outcome_of_line o line).work → new ≡ record { setting = o.setting; desk = desk_with o.desk work } → AnswersLine o line (Some text) new
 unfolding line_answer line_desk with_desk
-AnswersLine-reply o line out text new not_blank is printed taken = record {
+AnswersLine-reply o line text work new not_blank printed is taken = record {
   text =
       printed
-      ∙ ap (λ (r : Reply). reply_text r ++ 10 ∷ []) (ap (λ (x : Outcome). x.reply) is ∙ sym (outcome_of_reading-reply o (request line)))
+      ∙ ap (λ (r : Reply). reply_text r ++ 10 ∷ []) (sym (outcome_of_reading-reply o (request line)))
       ∙ ap (λ b. cond b [] (reply_text (line_event o.setting o.desk line).reply ++ 10 ∷ [])) (sym not_blank);
   blank = sym not_blank;
   desk_is =
       taken
-      ∙ ap (with_desk o) (ap (λ (x : Outcome). desk_with o.desk x.work) is ∙ sym (outcome_of_reading-desk o (request line)))
+      ∙ ap (with_desk o) (ap (desk_with o.desk) is ∙ sym (outcome_of_reading-desk o (request line)))
       ∙ ap (λ b. record { setting = o.setting; desk = cond b o.desk (line_event o.setting o.desk line).desk }) (sym not_blank);
 }

@@ -7,7 +7,7 @@ ghost use Rattle.desk_core.specs.Lines.{AnswersLine, outcome_of_line, outcome_of
 
 use crate::clerks::{clerk_of, is_batch};
 use crate::desk::{Desk, StepEnd, refused};
-use crate::work::Outcome;
+use crate::work::{Outcome, Work};
 use desk_words::{Refusal, Reply, Request, WordFault};
 use reg_base::Memory;
 use reg_io::Line;
@@ -22,11 +22,29 @@ pub fn answer_line(alloc: Global, desk: &mut Desk, line: &Line) -> Result<Option
     if is_blank(line) {
         return Ok(None);
     }
-    let Outcome { reply, work } = line_outcome(alloc, desk, line)?;
     // The reply is printed first: behind the change nothing may fail.
-    let text = printed(alloc, &reply)?;
+    let Told { text, work } = told_by(alloc, desk, line)?;
     desk.take_over(work)?;
     Ok(Some(text))
+}
+
+/// What is told to a line, before anything is changed: the text of its reply, and the work that is
+/// still to be taken over.
+#[derive(Drop)]
+struct Told {
+    text: Vec<u8>,
+    work: Option<Work>,
+}
+
+/// Prints the reply to a line.
+fn told_by(alloc: Global, desk: &Desk, line: &Line) -> Result<Told, Memory>
+    ensures text { IfOk result (λ told. told.text.items
+        ≡ reply_text (outcome_of_line desk.now line.now).reply ++ 10 ∷ []) }
+    ensures work { IfOk result (λ told. told.work ≡ (outcome_of_line desk.now line.now).work) }
+{
+    let Outcome { reply, work } = line_outcome(alloc, desk, line)?;
+    let text = printed(alloc, &reply)?;
+    Ok(Told { text, work })
 }
 
 /// Whether a line has nothing but spaces and tabs.

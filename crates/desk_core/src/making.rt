@@ -67,16 +67,29 @@ fn numbered(alloc: Global, date: Date, given: List<Given>) -> Result<List<Rec>, 
     let mut records = Vec::new(alloc);
     'given: for g in given.into_vec() {
         if is_made(&g) {
-            let Given { mark, values, sums } = g;
             let line = records.len() as u16 + 1;
-            records.push(Rec {
-                line,
-                period: date,
-                mark,
-                values,
-                sums,
-            })?;
+            records.push(record_at(line, date, g))?;
         }
     }
     Ok(List::from_vec(records))
+}
+
+/// The record that is made of one given.
+fn record_at(line: u16, date: Date, given: Given) -> Rec
+    ensures { result ≡ record {
+      line = line;
+      period = date;
+      mark = given.mark;
+      values = given.values;
+      sums = given.sums;
+    } }
+{
+    let Given { mark, values, sums } = given;
+    Rec {
+        line,
+        period: date,
+        mark,
+        values,
+        sums,
+    }
 }

@@ -1,5 +1,5 @@
 //! The rows of a balance: the records inside a cut, summed by their values.
-ghost use Rattle.std.specs.Prelude.{◌≡◌, ℕ, ◌≤◌, ◌<◌, ◌^◌, ◌+ℤ◌, pos, [], ◌∷◌, All, length, map, filter, not, None, IfOk};
+ghost use Rattle.std.specs.Prelude.{◌≡◌, ℕ, ◌≤◌, ◌<◌, ◌^◌, ◌+ℤ◌, pos, [], ◌∷◌, All, length, ◌++◌, map, filter, not, None, IfOk, OnOk};
 ghost use Rattle.std.specs.List.{flat_map, list_any, range_with_len};
 ghost use Rattle.std.specs.Ordering.{int_eq};
 ghost use Rattle.reg_base.specs.Cuts.{inside};
@@ -194,14 +194,23 @@ fn shown_rows(alloc: Global, sums: BTreeMap<Vec<Value>, Vec<i128>>) -> Result<Li
 {
     let mut rows = List::new(alloc);
     for (group, totals) in sums {
-        if has_some(&totals) {
-            rows.push(SumRow {
-                group: List::from_vec(group),
-                sums: List::from_vec(totals),
-            })?;
-        }
+        push_shown(&mut rows, group, totals)?;
     }
     Ok(rows)
+}
+
+/// Puts a row behind the others, unless it is all zeros.
+fn push_shown(rows: &mut List<SumRow>, group: Vec<Value>, totals: Vec<i128>) -> Result<(), Memory>
+    ensures { OnOk result (rows.new ≡ rows.old
+        ++ filter is_shown (record { group = group.items; sums = totals.items } ∷ [])) }
+{
+    if has_some(&totals) {
+        rows.push(SumRow {
+            group: List::from_vec(group),
+            sums: List::from_vec(totals),
+        })?;
+    }
+    Ok(())
 }
 
 /// Whether not all of the sums are 0.

@@ -1,7 +1,7 @@
 -- A line is answered by what it comes to.
-use Rattle.std.proofs.Common.{◌∙◌, sym, subst}
+use Rattle.std.proofs.Common.{◌∙◌, Option, sym, subst}
 use Rattle.std.specs.Option.{ForSome}
-use Rattle.desk_core.specs.declared.work.Outcome.{Outcome}
+use Rattle.desk_core.specs.declared.work.Work.{Work}
 use Rattle.desk_core.specs.Opened.{IsNext}
 use Rattle.desk_core.proofs.LineLemmas.{outcome_of_line-next, AnswersLine-blank, AnswersLine-reply}
 use Rattle.desk_core.proofs.line.answer_line.Goals as goal
@@ -12,10 +12,10 @@ returns-then-is_blank-clause-ok c =
 
 pub take_over-requires : goal.take_over-requires
 take_over-requires c =
-    subst (λ (o : Outcome). ForSome o.work (IsNext c.args.desk.now.desk)) (sym c.in_ok-reply.ensures)
+    subst (λ (w : Option Work). ForSome w (IsNext c.args.desk.now.desk)) (sym c.in_ok-text.ensures.work)
     (outcome_of_line-next c.args.desk.now c.args.line.now)
 
 pub returns-clause-ok : goal.returns-clause-ok
 returns-clause-ok c =
-    AnswersLine-reply c.args.desk.now c.args.line.now c.in_ok-reply.field-0 c.in_ok-text.text c.take_over.new.self
-    (sym c.is_blank.ensures ∙ c.if-is_blank.false) c.in_ok-reply.ensures c.in_ok-text.ensures c.in_ok-take_over.ensures.ok
+    AnswersLine-reply c.args.desk.now c.args.line.now c.in_ok-text.field-0.text c.in_ok-text.field-0.work c.take_over.new.self
+    (sym c.is_blank.ensures ∙ c.if-is_blank.false) c.in_ok-text.ensures.text c.in_ok-text.ensures.work c.in_ok-take_over.ensures.ok

@@ -1,0 +1,9 @@
+use Rattle.std.proofs.Common.{sym, ◌∙◌}
+use Rattle.desk_core.specs.Meanings.{read_record}
+use Rattle.desk_core.proofs.ReadingLemmas.{following-more}
+use Rattle.desk_core.proofs.manual.read_records.Goals as goal
+
+pub texts-preserved : goal.texts-preserved
+texts-preserved c =
+    following-more (read_record c.args.register.now) c.args.texts.now c.texts.text-index c.text-item.result c.texts.records.items c.push.new.self.items c.in-Ok.given _
+    c.texts-test.true c.text-item.is (sym c.in-Ok.is ∙ c.in_ok-given.ensures) c.in_ok-push.ensures.items c.texts.invariant
