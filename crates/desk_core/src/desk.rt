@@ -11,11 +11,11 @@ ghost use Rattle.desk_words.specs.declared.request.Request.TheVariants as Reques
 ghost use Rattle.desk_core.specs.State.{first_desk};
 ghost use Rattle.desk_core.specs.Opened.{Steps, IsNext, desk_with, outcome_of};
 ghost use Rattle.desk_core.specs.Meanings.{plan_manual, look_balance, manual_doc as manual_doc_of};
-ghost use Rattle.desk_core.specs.Serial.{change_work, read_answer, is_clerk, answer_of as answer_of_work};
+ghost use Rattle.desk_core.specs.Serial.{change_work, work_of as work_of_plan, read_answer, is_clerk, answer_of as answer_of_work};
 ghost use Rattle.desk_core.specs.Laws.{IsRefusal};
 
 use crate::clerks::is_batch;
-use crate::given::wrong;
+use crate::given::{Given, wrong};
 use crate::making::make_sets;
 use crate::manual::given_of;
 use crate::rows::balance_rows;
@@ -143,7 +143,7 @@ impl Desk {
 
     /// The document that `manual` makes: its records are read, then a number must be left, then
     /// the records are made.
-    #[tactic(auto, unfolding(crate::specs::Serial::change_work, crate::specs::Serial::work_of))]
+    #[tactic(auto, unfolding(crate::specs::Serial::change_work))]
     fn work_of(&self, alloc: Global, manual: &Manual) -> Tried<Work>
         ensures { IfOk result (λ tried. tried
             ≡ change_work self.now.desk.serial (plan_manual self.now.setting.config manual.now)) }
@@ -155,18 +155,7 @@ impl Desk {
         if self.top == u32::MAX {
             return Ok(Err(no_number_left()));
         }
-        let registers = match make_sets(alloc, manual.date, given)? {
-            Ok(registers) => registers,
-            Err(refusal) => return Ok(Err(refusal)),
-        };
-        let doc = manual_doc(alloc, self.top + 1, manual.date);
-        let sets = Sets {
-            registers,
-            ledgers: List::new(alloc),
-        };
-        Ok(Ok(Work {
-            after: Document { doc, sets },
-        }))
+        make_document(alloc, self.top + 1, manual.date, given)
     }
 
     /// The rows of a balance of all the register's records.
@@ -235,6 +224,26 @@ fn answer_of(work: &Work) -> Answer
         doc: doc.number,
         state: doc.state,
     }
+}
+
+/// The document of this number with the records that are made of those given.
+#[tactic(auto, unfolding(crate::specs::Serial::work_of))]
+fn make_document(alloc: Global, number: u32, date: Date, given: List<List<Given>>) -> Tried<Work>
+    ensures { IfOk result (λ tried. tried
+        ≡ work_of_plan (record { doc = manual_doc_of number date; given = given })) }
+{
+    let registers = match make_sets(alloc, date, given)? {
+        Ok(registers) => registers,
+        Err(refusal) => return Ok(Err(refusal)),
+    };
+    let sets = Sets {
+        registers,
+        ledgers: List::new(alloc),
+    };
+    let doc = manual_doc(alloc, number, date);
+    Ok(Ok(Work {
+        after: Document { doc, sets },
+    }))
 }
 
 /// A posted document without a type, a key or a comment.

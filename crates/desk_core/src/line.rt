@@ -42,9 +42,12 @@ fn told_by(alloc: Global, desk: &Desk, line: &Line) -> Result<Told, Memory>
         ≡ reply_text (outcome_of_line desk.now line.now).reply ++ 10 ∷ []) }
     ensures work { IfOk result (λ told. told.work ≡ (outcome_of_line desk.now line.now).work) }
 {
-    let Outcome { reply, work } = line_outcome(alloc, desk, line)?;
-    let text = printed(alloc, &reply)?;
-    Ok(Told { text, work })
+    let outcome = line_outcome(alloc, desk, line)?;
+    let text = printed(alloc, &outcome.reply)?;
+    Ok(Told {
+        text,
+        work: outcome.work,
+    })
 }
 
 /// Whether a line has nothing but spaces and tabs.
