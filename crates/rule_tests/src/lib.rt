@@ -15,6 +15,8 @@ mod meaning_rows;
 #[cfg(test)]
 mod printed_rows;
 #[cfg(test)]
+mod rows;
+#[cfg(test)]
 mod sample_rows;
 #[cfg(test)]
 mod sample_tests;

@@ -1,114 +1,56 @@
 //! Short texts of rules are read, and their first fault is told.
 use crate::meaning_rows::{BINDS, CONDITIONS, NAMES, REGISTERS, SCOPES, SEQUENCES, TYPES};
 use crate::printed_rows::{PRINTED, SALE};
+use crate::rows::{Rows, expect};
 use crate::syntax_rows::{ACTS, SUMS, WORDS};
-use cfg_model::{Chart, Config, Dimension, Field, Kind, Register, Resource, Sequence};
-use reg_base::{List, Name, Scale, Text};
+use cfg_model::Config;
 use rule_lang::Rules;
 use std::alloc::Global;
 use std::process::Abort;
 
-fn dimensions(alloc: Global, names: &[(&str, bool)]) -> Option<List<Dimension>> {
-    let mut all = List::new(alloc);
-    for (name, lot) in names {
-        let name = Name::parse(name)?;
-        all.push(Dimension { name, lot: *lot }).ok()?;
-    }
-    Some(all)
-}
+/// Registers and a ledger, and in front of its name a document type.
+const FRONT: &str = "\
+[register.goods]
+kind = 'balance'
+dimensions = ['item:code']
+resources = ['quantity:3', 'amount:2']
 
-fn resources(alloc: Global) -> Option<List<Resource>> {
-    let mut all = List::new(alloc);
-    for (name, decimals) in [("quantity", 3), ("amount", 2)] {
-        let name = Name::parse(name)?;
-        let scale = Scale::new(decimals)?;
-        all.push(Resource { name, scale }).ok()?;
-    }
-    Some(all)
-}
+[register.sales]
+kind = 'turnover'
+dimensions = ['item:code']
+resources = ['quantity:3', 'amount:2']
 
-fn register(alloc: Global, name: &str, balance: bool, names: &[(&str, bool)]) -> Option<Register> {
-    Some(Register {
-        name: Name::parse(name)?,
-        balance,
-        dimensions: dimensions(alloc, names)?,
-        resources: resources(alloc)?,
-        split: false,
-    })
-}
+[register.stock]
+kind = 'balance'
+dimensions = ['warehouse:code', 'item:code', 'lot:lot']
+resources = ['quantity:3', 'amount:2']
 
-/// A field with a scale, or with codes where it is 9.
-fn fields(alloc: Global, names: &[(&str, u8)]) -> Option<List<Field>> {
-    let mut all = List::new(alloc);
-    for (name, decimals) in names {
-        let name = Name::parse(name)?;
-        let scale = Scale::new(*decimals);
-        all.push(Field { name, scale }).ok()?;
-    }
-    Some(all)
-}
+[ledger.main]
+scale = 2
+accounts = []
 
-fn names_of(alloc: Global, name: &str) -> Option<List<Name>> {
-    let mut all = List::new(alloc);
-    all.push(Name::parse(name)?).ok()?;
-    Some(all)
-}
+[document.";
 
-fn registers(alloc: Global) -> Option<List<Register>> {
-    let item = [("item", false)];
-    let lots = [("warehouse", false), ("item", false), ("lot", true)];
-    let mut all = List::new(alloc);
-    all.push(register(alloc, "goods", true, &item)?).ok()?;
-    all.push(register(alloc, "sales", false, &item)?).ok()?;
-    all.push(register(alloc, "stock", true, &lots)?).ok()?;
-    Some(all)
-}
+/// The fields of the document type, in front of its rules.
+const FIELDS: &str = "]
+head = ['warehouse:code', 'limit:3', 'other:code']
+lines = ['item:code', 'quantity:3', 'amount:2']
+rules = '''
+";
 
-fn kinds(alloc: Global, name: &str, rules: &str) -> Option<List<Kind>> {
-    let mut all = List::new(alloc);
-    all.push(Kind {
-        name: Name::parse(name)?,
-        head: fields(alloc, &[("warehouse", 9), ("limit", 3), ("other", 9)])?,
-        lines: fields(alloc, &[("item", 9), ("quantity", 3), ("amount", 2)])?,
-        rules: Text::from_str(alloc, rules).ok()?,
-    })
-    .ok()?;
-    Some(all)
-}
+/// A sequence of `sale`, which `stock` affects.
+const SEQUENCE: &str = "
+[sequence.batches]
+documents = ['sale']
+registers = ['stock']
+dimensions = ['warehouse']
+";
 
-fn ledgers(alloc: Global) -> Option<List<Chart>> {
-    let mut all = List::new(alloc);
-    all.push(Chart {
-        name: Name::parse("main")?,
-        scale: Scale::new(2)?,
-        split: false,
-        accounts: List::new(alloc),
-    })
-    .ok()?;
-    Some(all)
-}
-
-fn sequences(alloc: Global) -> Option<List<Sequence>> {
-    let mut all = List::new(alloc);
-    all.push(Sequence {
-        name: Name::parse("batches")?,
-        kinds: names_of(alloc, "sale")?,
-        registers: names_of(alloc, "stock")?,
-        dimensions: names_of(alloc, "warehouse")?,
-    })
-    .ok()?;
-    Some(all)
-}
-
-/// A configuration of one document type, where `sale` stands in a sequence that `stock` affects.
+/// A configuration of one document type, which stands in the sequence where it is `sale`.
 fn config(alloc: Global, kind: &str, rules: &str) -> Option<Config> {
-    Some(Config {
-        registers: registers(alloc)?,
-        ledgers: ledgers(alloc)?,
-        kinds: kinds(alloc, kind, rules)?,
-        sequences: sequences(alloc)?,
-        clerks: List::new(alloc),
-    })
+    let sequence = if kind == "sale" { SEQUENCE } else { "" };
+    let file = format!(in alloc; "{FRONT}{kind}{FIELDS}{rules}'''{sequence}").ok()?;
+    Config::read(alloc, file.as_bytes()).ok()
 }
 
 /// What is told of a text; none where memory is wanted.
@@ -120,81 +62,69 @@ fn told(alloc: Global, kind: &str, rules: &str) -> Option<String> {
     }
 }
 
-pub(crate) fn expect(rt: &impl Abort, alloc: Global, kind: &str, rules: &str, wanted: &str) {
-    match told(alloc, kind, rules) {
-        Some(text) => assert_eq!(rt; text.as_str(), wanted, "{rules}"),
-        None => assert!(rt; false, "memory"),
+/// Asks what is told of each text.
+fn expect_told(rt: &impl Abort, alloc: Global, kind: &str, rows: Rows) {
+    for (rules, wanted) in rows {
+        expect(rt, rules, told(alloc, kind, rules), wanted);
+    }
+}
+
+/// Asks what is told of a text that is made; none where memory is wanted.
+pub(crate) fn expect_made(rt: &impl Abort, alloc: Global, made: Option<String>, wanted: &str) {
+    match made {
+        Some(rules) => expect(rt, wanted, told(alloc, "fill", rules.as_str()), wanted),
+        None => panic!(rt; "memory was refused"),
     }
 }
 
 #[test]
 fn a_word_that_cannot_follow_is_told_by_its_place(rt: HostRuntime) {
-    for (rules, wanted) in &WORDS {
-        expect(&rt, rt.alloc(), "fill", rules, wanted);
-    }
+    expect_told(&rt, rt.alloc(), "fill", &WORDS);
 }
 
 #[test]
 fn a_sum_that_breaks_off_is_told_by_its_place(rt: HostRuntime) {
-    for (rules, wanted) in &SUMS {
-        expect(&rt, rt.alloc(), "fill", rules, wanted);
-    }
+    expect_told(&rt, rt.alloc(), "fill", &SUMS);
 }
 
 #[test]
 fn an_act_that_breaks_off_is_told_by_its_place(rt: HostRuntime) {
-    for (rules, wanted) in &ACTS {
-        expect(&rt, rt.alloc(), "fill", rules, wanted);
-    }
+    expect_told(&rt, rt.alloc(), "fill", &ACTS);
 }
 
 #[test]
 fn an_unknown_name_is_told_before_all_else(rt: HostRuntime) {
-    for (rules, wanted) in &NAMES {
-        expect(&rt, rt.alloc(), "fill", rules, wanted);
-    }
+    expect_told(&rt, rt.alloc(), "fill", &NAMES);
 }
 
 #[test]
 fn a_dimension_has_one_value(rt: HostRuntime) {
-    for (rules, wanted) in &BINDS {
-        expect(&rt, rt.alloc(), "fill", rules, wanted);
-    }
+    expect_told(&rt, rt.alloc(), "fill", &BINDS);
 }
 
 #[test]
 fn a_number_has_the_scale_of_its_place(rt: HostRuntime) {
-    for (rules, wanted) in &TYPES {
-        expect(&rt, rt.alloc(), "fill", rules, wanted);
-    }
+    expect_told(&rt, rt.alloc(), "fill", &TYPES);
 }
 
 #[test]
 fn a_condition_compares_what_is_alike(rt: HostRuntime) {
-    for (rules, wanted) in &CONDITIONS {
-        expect(&rt, rt.alloc(), "fill", rules, wanted);
-    }
+    expect_told(&rt, rt.alloc(), "fill", &CONDITIONS);
 }
 
 #[test]
 fn lines_and_costs_stand_in_their_scope(rt: HostRuntime) {
-    for (rules, wanted) in &SCOPES {
-        expect(&rt, rt.alloc(), "fill", rules, wanted);
-    }
+    expect_told(&rt, rt.alloc(), "fill", &SCOPES);
 }
 
 #[test]
 fn a_verb_suits_its_register(rt: HostRuntime) {
-    for (rules, wanted) in &REGISTERS {
-        expect(&rt, rt.alloc(), "fill", rules, wanted);
-    }
+    expect_told(&rt, rt.alloc(), "fill", &REGISTERS);
 }
 
 #[test]
 fn a_sequence_binds_its_dimensions_to_the_head(rt: HostRuntime) {
-    for (rules, wanted) in &SEQUENCES {
-        expect(&rt, rt.alloc(), "sale", rules, wanted);
-    }
+    expect_told(&rt, rt.alloc(), "sale", &SEQUENCES);
 }
 
 /// So many controls, and then what is given.
@@ -222,49 +152,61 @@ const LAST: [&str; 8] = [
 #[test]
 fn a_statement_of_each_verb_is_one_too_many(rt: HostRuntime) {
     for last in &LAST {
-        expect(&rt, rt.alloc(), "fill", last, "accepted");
-        match controls(rt.alloc(), 64, last) {
-            Some(text) => expect(&rt, rt.alloc(), "fill", text.as_str(), "fill 1472 8"),
-            None => assert!(rt; false, "memory"),
-        }
+        expect_made(&rt, rt.alloc(), controls(rt.alloc(), 0, last), "accepted");
+        expect_made(
+            &rt,
+            rt.alloc(),
+            controls(rt.alloc(), 64, last),
+            "fill 1472 8",
+        );
     }
 }
+
+/// How many controls stand in front of what is given, and what is told.
+const COUNTED: [(u8, &str, &str); 5] = [
+    (64, "", "accepted"),
+    (65, "", "fill 1472 8"),
+    (64, "control sales quantity;", "fill 1472 7"),
+    (66, "control nowhere quantity;", "fill 1472 8"),
+    (65, "control", "fill 1502 1"),
+];
 
 #[test]
 fn the_sixty_fifth_statement_is_one_too_many(rt: HostRuntime) {
-    for (count, last, wanted) in [
-        (64, "", "accepted"),
-        (65, "", "fill 1472 8"),
-        (64, "control sales quantity;", "fill 1472 7"),
-        (66, "control nowhere quantity;", "fill 1472 8"),
-        (65, "control", "fill 1502 1"),
-    ] {
-        match controls(rt.alloc(), count, last) {
-            Some(text) => expect(&rt, rt.alloc(), "fill", text.as_str(), wanted),
-            None => assert!(rt; false, "memory"),
-        }
+    for (count, last, wanted) in &COUNTED {
+        expect_made(&rt, rt.alloc(), controls(rt.alloc(), *count, last), wanted);
     }
 }
 
-/// What is printed of a text behind `front`; none where memory is wanted or the text is refused.
-fn printed(alloc: Global, kind: &str, rules: &str) -> Option<Vec<u8>> {
-    let config = config(alloc, kind, rules)?;
-    let rules = Rules::read(alloc, &config).ok()?;
-    let mut out = b"front ".to_vec(alloc).ok()?;
-    rules.print(alloc, &config, 0, &mut out).ok()?;
-    rules.print(alloc, &config, 1, &mut out).ok()?;
-    Some(out)
+/// Whether this is printed of the rules of the document type at a place, behind what stands there.
+pub(crate) fn prints(
+    alloc: Global,
+    config: &Config,
+    rules: &Rules,
+    kind: usize,
+    wanted: &str,
+) -> bool {
+    let mut out = Vec::new(alloc);
+    out.extend_from_slice(b"front ").is_ok()
+        && rules.print(alloc, config, kind, &mut out).is_ok()
+        && out.as_slice().strip_prefix(b"front ".as_slice()) == Some(wanted.as_bytes())
+}
+
+/// Whether a text of rules is accepted and printed so, with nothing of a second document type.
+fn is_printed(alloc: Global, kind: &str, rules: &str, wanted: &str) -> bool {
+    let Some(config) = config(alloc, kind, rules) else {
+        return false;
+    };
+    match Rules::read(alloc, &config) {
+        Ok(rules) => {
+            prints(alloc, &config, &rules, 0, wanted) && prints(alloc, &config, &rules, 1, "")
+        }
+        Err(_) => false,
+    }
 }
 
 fn expect_printed(rt: &impl Abort, alloc: Global, kind: &str, rules: &str, wanted: &str) {
-    match printed(alloc, kind, rules) {
-        Some(out) => {
-            assert!(rt; out.as_slice().starts_with(b"front "), "{rules}");
-            assert!(rt; out.len() == 6 + wanted.len(), "{rules}");
-            assert!(rt; out.as_slice().ends_with(wanted.as_bytes()), "{rules}");
-        }
-        None => assert!(rt; false, "memory, or a fault"),
-    }
+    assert!(rt; is_printed(alloc, kind, rules, wanted), "{rules}");
 }
 
 #[test]

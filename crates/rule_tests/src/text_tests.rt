@@ -1,8 +1,7 @@
 //! Texts, each with how many statements it has or the place of its first fault.
-use reg_base::Memory;
+use crate::rows::expect;
 use rule_text::{TextFault, parse};
 use std::alloc::Global;
-use std::test::Fail;
 
 const TEXTS: [(&str, &str); 10] = [
     ("", "0 statements"),
@@ -20,24 +19,21 @@ const TEXTS: [(&str, &str); 10] = [
     ("h\u{e9}", "syntax at 0"),
 ];
 
-/// What is told of a text.
-fn told(alloc: Global, text: &str) -> Result<String, Memory> {
-    let told = match parse(alloc, text) {
+/// What is told of a text; none where memory is wanted.
+fn told(alloc: Global, text: &str) -> Option<String> {
+    match parse(alloc, text) {
         Ok(statements) => {
             let count = statements.len();
-            format!(in alloc; "{count} statements")?
+            format!(in alloc; "{count} statements").ok()
         }
-        Err(TextFault::Syntax(place)) => format!(in alloc; "syntax at {place}")?,
-        Err(TextFault::Memory) => String::from_str(alloc, "memory")?,
-    };
-    Ok(told)
+        Err(TextFault::Syntax(place)) => format!(in alloc; "syntax at {place}").ok(),
+        Err(TextFault::Memory) => None,
+    }
 }
 
 #[test]
-fn a_text_has_statements_or_the_place_of_its_first_fault(rt: HostRuntime) -> Result<(), Fail> {
-    for (text, expected) in &TEXTS {
-        let found = told(rt.alloc(), text)?;
-        assert_eq!(rt; found.as_str(), *expected, "{text}");
+fn a_text_has_statements_or_the_place_of_its_first_fault(rt: HostRuntime) {
+    for (text, wanted) in &TEXTS {
+        expect(&rt, text, told(rt.alloc(), text), wanted);
     }
-    Ok(())
 }
