@@ -13,4 +13,8 @@
 #[cfg(test)]
 mod device_tests;
 #[cfg(test)]
+mod line_tests;
+#[cfg(test)]
+mod rows;
+#[cfg(test)]
 mod value_tests;

@@ -1,93 +1,168 @@
 //! Tests over values from outside: spellings, and each call that allocates with ample memory.
-use reg_base::{Cut, Date, DateFault, Num, NumFault, Point, inside, print_sum, sum_string};
+use crate::rows::expect;
+use reg_base::{Cut, Date, DateFault, Memory, Num, NumFault, Point, inside, print_sum, sum_string};
+use std::alloc::Global;
 use std::test::Fail;
 
-fn date(text: &str) -> Result<Date, Fail> {
-    Ok(Date::parse(text).ok().ok_or("a date was refused")?)
+fn is_text(found: Result<String, Memory>, wanted: &str) -> bool {
+    match found {
+        Ok(text) => text.as_str() == wanted,
+        Err(_) => false,
+    }
+}
+
+// A text, the scale that it is read at, and what it is read as.
+const NUMBERS: [(&str, u8, Result<Num, NumFault>); 7] = [
+    ("-12.50", 2, Ok(Num { units: -1250 })),
+    ("7", 3, Ok(Num { units: 7000 })),
+    ("1.2345", 3, Err(NumFault::TooManyDecimals)),
+    ("1x", 3, Err(NumFault::NotANumber { place: 1 })),
+    ("1.2345x", 3, Err(NumFault::NotANumber { place: 6 })),
+    ("1000000000000000", 0, Err(NumFault::TooLarge)),
+    ("99999999999999999999999999", 6, Err(NumFault::TooLarge)),
+];
+
+fn is_read(text: &str, scale: u8, wanted: &Result<Num, NumFault>) -> bool {
+    scale <= 6 && Num::parse(text, scale) == *wanted
 }
 
 #[test]
 fn a_number_is_read_or_its_first_fault_is_told(rt: HostRuntime) {
-    let not_a_number = |place: usize| Err(NumFault::NotANumber { place });
-    for (text, scale, wanted) in [
-        ("-12.50", 2, Ok(Num { units: -1250 })),
-        ("7", 3, Ok(Num { units: 7000 })),
-        ("1.2345", 3, Err(NumFault::TooManyDecimals)),
-        ("1x", 3, not_a_number(1)),
-        ("1.2345x", 3, not_a_number(6)),
-        ("1000000000000000", 0, Err(NumFault::TooLarge)),
-        ("99999999999999999999999999", 6, Err(NumFault::TooLarge)),
-    ] {
-        assert!(rt; text.len() < 100);
-        assert_eq!(rt; Num::parse(text, scale), wanted, "at {text}");
+    for (text, scale, wanted) in &NUMBERS {
+        expect(&rt, text, is_read(text, *scale, wanted));
     }
 }
 
-#[test]
-fn a_sum_is_printed_with_the_decimals_of_its_scale(rt: HostRuntime) -> Result<(), Fail> {
-    let alloc = rt.alloc();
-    for (units, scale, wanted) in [
-        (4286i128, 2u8, "42.86"),
-        (-5i128, 3u8, "-0.005"),
-        (i128::MIN, 0u8, "-170141183460469231731687303715884105728"),
-    ] {
-        assert_eq!(rt; sum_string(alloc, units, scale)?.as_str(), wanted);
-        let mut out = b"sum ".to_vec(alloc)?;
-        print_sum(alloc, units, scale, &mut out)?;
-        assert!(rt; out.as_slice().ends_with(wanted.as_bytes()));
-        assert!(rt; out.as_slice().starts_with(b"sum "));
-    }
-    Ok(())
+// The units of a sum, its scale, and its text.
+const SUMS: [(i128, u8, &str); 3] = [
+    (4286, 2, "42.86"),
+    (-5, 3, "-0.005"),
+    (i128::MIN, 0, "-170141183460469231731687303715884105728"),
+];
+
+// Whether a sum has this text, and is printed so behind other bytes.
+fn is_sum(alloc: Global, units: i128, scale: u8, wanted: &str) -> bool {
+    let mut out = Vec::new(alloc);
+    scale <= 6
+        && is_text(sum_string(alloc, units, scale), wanted)
+        && out.extend_from_slice(b"sum ").is_ok()
+        && print_sum(alloc, units, scale, &mut out).is_ok()
+        && out.as_slice().strip_prefix(b"sum ".as_slice()) == Some(wanted.as_bytes())
 }
 
 #[test]
-fn a_date_is_read_to_the_second_and_printed_in_the_long_form(rt: HostRuntime) -> Result<(), Fail> {
-    for (text, wanted) in [
-        ("2024-02-30", DateFault::NotADate),
-        ("2024-01-10T24:00:00", DateFault::NotADate),
-        ("2024-12-31T23:59:60", DateFault::NotADate),
-        ("1999-12-31", DateFault::OutOfYears),
-        ("2100-01-01T00:00:00", DateFault::OutOfYears),
-    ] {
-        assert_eq!(rt; Date::parse(text), Err(wanted), "at {text}");
+fn a_sum_is_printed_with_the_decimals_of_its_scale(rt: HostRuntime) {
+    for (units, scale, wanted) in &SUMS {
+        expect(&rt, wanted, is_sum(rt.alloc(), *units, *scale, wanted));
     }
-    let morning = date("2024-01-10T09:00:00")?;
-    assert_eq!(rt; morning.seconds(), 758_192_400);
-    assert_eq!(rt;
-        morning.to_text(rt.alloc())?.as_str(),
-        "2024-01-10T09:00:00"
+}
+
+// Texts that are no dates, each with the reason.
+const NO_DATES: [(&str, DateFault); 5] = [
+    ("2024-02-30", DateFault::NotADate),
+    ("2024-01-10T24:00:00", DateFault::NotADate),
+    ("2024-12-31T23:59:60", DateFault::NotADate),
+    ("1999-12-31", DateFault::OutOfYears),
+    ("2100-01-01T00:00:00", DateFault::OutOfYears),
+];
+
+fn is_no_date(text: &str, fault: DateFault) -> bool {
+    Date::parse(text) == Err(fault)
+}
+
+// Whether a date is read so many seconds from the first day on, and has this long form.
+fn is_date(alloc: Global, text: &str, seconds: u32, wanted: &str) -> bool {
+    let Ok(date) = Date::parse(text) else {
+        return false;
+    };
+    let mut out = Vec::new(alloc);
+    date.seconds() == seconds
+        && is_text(date.to_text(alloc), wanted)
+        && date.print(alloc, &mut out).is_ok()
+        && out.as_slice() == wanted.as_bytes()
+}
+
+#[test]
+fn a_date_is_read_to_the_second_and_printed_in_the_long_form(rt: HostRuntime) {
+    for (text, fault) in &NO_DATES {
+        expect(&rt, text, is_no_date(text, *fault));
+    }
+    let morning = "2024-01-10T09:00:00";
+    expect(
+        &rt,
+        &morning,
+        is_date(rt.alloc(), morning, 758_192_400, morning),
     );
-    let mut out = Vec::new(rt.alloc());
-    date("2096-02-29")?.print(rt.alloc(), &mut out)?;
-    assert_eq!(rt; out.as_slice(), b"2096-02-29T00:00:00".as_slice());
-    Ok(())
+    let day = "2096-02-29";
+    let long = "2096-02-29T00:00:00";
+    expect(&rt, &day, is_date(rt.alloc(), day, 3_034_627_200, long));
+}
+
+// Cuts, each with whether the first document of nine o'clock stands inside, and its text.
+const CUTS: [(&str, bool, &str); 6] = [
+    ("now", true, "now"),
+    ("2024-01-10T09:00:00", false, "before 2024-01-10T09:00:00"),
+    (
+        "before 2024-01-10T09:00:00",
+        false,
+        "before 2024-01-10T09:00:00",
+    ),
+    (
+        "through 2024-01-10T09:00:00",
+        true,
+        "through 2024-01-10T09:00:00",
+    ),
+    (
+        "before 2024-01-10T09:00:00#1",
+        false,
+        "before 2024-01-10T09:00:00#1",
+    ),
+    (
+        "through 2024-01-10T09:00:00#1",
+        true,
+        "through 2024-01-10T09:00:00#1",
+    ),
+];
+
+const FIRST: &str = "2024-01-10T09:00:00#1";
+
+fn takes_point(cut: &Cut, point: &Point) -> bool {
+    inside(*cut, *point)
+}
+
+fn has_text(alloc: Global, cut: &Cut, wanted: &str) -> bool {
+    is_text(cut.to_text(alloc), wanted)
+}
+
+// Whether a cut is read that has the point inside or not, and this text.
+fn is_cut(alloc: Global, text: &str, point: &Point, takes: bool, wanted: &str) -> bool {
+    match Cut::parse(text) {
+        Ok(cut) => takes_point(&cut, point) == takes && has_text(alloc, &cut, wanted),
+        Err(_) => false,
+    }
 }
 
 #[test]
 fn a_cut_takes_the_points_before_it_or_through_it(rt: HostRuntime) -> Result<(), Fail> {
-    let first = Point::parse("2024-01-10T09:00:00#1")
-        .ok()
-        .ok_or("a point was refused")?;
-    for (text, wanted) in [
-        ("now", true),
-        ("2024-01-10T09:00:00", false),
-        ("before 2024-01-10T09:00:00", false),
-        ("through 2024-01-10T09:00:00", true),
-        ("before 2024-01-10T09:00:00#1", false),
-        ("through 2024-01-10T09:00:00#1", true),
-    ] {
-        let cut = Cut::parse(text).ok().ok_or("a cut was refused")?;
-        assert_eq!(rt; inside(cut, first), wanted, "at {text}");
-        if text != "2024-01-10T09:00:00" {
-            assert_eq!(rt; cut.to_text(rt.alloc())?.as_str(), text);
-        }
+    let first = Point::parse(FIRST)?;
+    for (text, takes, wanted) in &CUTS {
+        expect(&rt, text, is_cut(rt.alloc(), text, &first, *takes, wanted));
     }
-    assert_eq!(rt;
-        Cut::parse("2024-01-10T09:00:00#1"),
-        Err(DateFault::NotADate)
-    );
-    let mut out = Vec::new(rt.alloc());
-    first.print(rt.alloc(), &mut out)?;
-    assert_eq!(rt; out.as_slice(), b"2024-01-10T09:00:00#1".as_slice());
     Ok(())
+}
+
+// Whether a point is printed as it is read, and is no cut by itself.
+fn is_point(alloc: Global, text: &str) -> bool {
+    let Ok(point) = Point::parse(text) else {
+        return false;
+    };
+    let mut out = Vec::new(alloc);
+    point.print(alloc, &mut out).is_ok()
+        && out.as_slice() == text.as_bytes()
+        && Cut::parse(text) == Err(DateFault::NotADate)
+}
+
+#[test]
+fn a_point_is_printed_as_it_is_read_and_is_no_cut(rt: HostRuntime) {
+    expect(&rt, &FIRST, is_point(rt.alloc(), FIRST));
 }
