@@ -336,11 +336,11 @@ pub(crate) const DOCUMENTS: [(&str, &str, &str, &str); 12] = [
     ("[]", "[]", "1", "2 Field document.d.rules"),
 ];
 
-/// A register with balances, one of turnovers, and two document types.
+/// A register with balances, one of turnovers, and two document types, in front of a sequence `q`.
 pub(crate) const SHOP: &str = "[register.b]\nkind = 'balance'\ndimensions = ['w:code', 'l:lot']\n\
     resources = ['n:0']\n[register.t]\nkind = 'turnover'\ndimensions = ['w:code']\n\
     resources = ['n:0']\n[document.r]\nhead = ['w:code', 'l:code']\nlines = []\nrules = ''\n\
-    [document.s]\nhead = ['w:2']\nlines = []\nrules = ''\n";
+    [document.s]\nhead = ['w:2']\nlines = []\nrules = ''\n[sequence.q]\ndocuments = ";
 
 /// The document types, registers and dimensions of a sequence `q` of that shop, with the file's
 /// first fault.

@@ -108,10 +108,23 @@ main:2 001,Leased,Active,off 002,Goods kept,Both,off,item 10,Goods,Active \
 ";
 
 /// A side of an entry: the account's code, and how many extras it gives.
-pub(crate) type GivenSide = Option<(&'static str, u8)>;
+type GivenSide = Option<(&'static str, u8)>;
 
-/// Entries of that chart, debit and credit, each with what is told of it.
-pub(crate) const ENTRIES: [(GivenSide, GivenSide, Result<(), EntryFault>); 24] = [
+/// The debit and the credit of an entry, with what is told of it.
+pub(crate) type Entry = (GivenSide, GivenSide, Result<(), EntryFault>);
+
+/// Entries of goods in the whole configuration.
+pub(crate) const GOODS: [Entry; 2] = [
+    (
+        Some(("10", 0)),
+        Some(("60", 0)),
+        Err(EntryFault::ExtraCount),
+    ),
+    (Some(("10", 1)), Some(("60", 0)), Ok(())),
+];
+
+/// Entries of the chart.
+pub(crate) const ENTRIES: [Entry; 24] = [
     (Some(("101", 2)), Some(("60", 0)), Ok(())),
     (Some(("60", 0)), Some(("101", 2)), Ok(())),
     (Some(("60", 0)), Some(("60", 0)), Ok(())),

@@ -9,22 +9,27 @@ use std::alloc::{AllocError, Global};
 /// A line for each register, ledger, document type, sequence and clerk.
 pub(crate) fn told(alloc: Global, config: &Config) -> Result<String, AllocError> {
     let mut out = String::new(alloc);
+    tell(alloc, &mut out, config)?;
+    Ok(out)
+}
+
+fn tell(alloc: Global, out: &mut String, config: &Config) -> Result<(), AllocError> {
     for register in config.registers.as_slice() {
-        tell_register(alloc, &mut out, register)?;
+        tell_register(alloc, out, register)?;
     }
     for chart in config.ledgers.as_slice() {
-        tell_chart(alloc, &mut out, chart)?;
+        tell_chart(alloc, out, chart)?;
     }
     for kind in config.kinds.as_slice() {
-        tell_kind(alloc, &mut out, kind)?;
+        tell_kind(alloc, out, kind)?;
     }
     for sequence in config.sequences.as_slice() {
-        tell_sequence(&mut out, sequence)?;
+        tell_sequence(out, sequence)?;
     }
     for clerk in config.clerks.as_slice() {
-        tell_clerk(&mut out, clerk)?;
+        tell_clerk(out, clerk)?;
     }
-    Ok(out)
+    Ok(())
 }
 
 fn tell_register(alloc: Global, out: &mut String, register: &Register) -> Result<(), AllocError> {
