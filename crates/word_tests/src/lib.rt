@@ -15,4 +15,6 @@ mod print_tests;
 #[cfg(test)]
 mod reply_tests;
 #[cfg(test)]
+mod rows;
+#[cfg(test)]
 mod tests;

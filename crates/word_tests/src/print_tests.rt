@@ -1,7 +1,9 @@
 //! Requests with their canonical texts.
+use crate::rows::{Frame, expect};
 use desk_words::Request;
 use std::alloc::Global;
-use std::test::Fail;
+
+const MARKED: Frame = [">", ""];
 
 /// Lines, each with the canonical text of its request.
 const TEXTS: &[(&str, &str)] = &[
@@ -42,26 +44,26 @@ const TEXTS: &[(&str, &str)] = &[
     ),
 ];
 
-/// The canonical text of the request that a line is, behind a mark.
-fn canonical(alloc: Global, line: &str) -> Result<String, Fail> {
-    let Ok(request) = Request::read_text(alloc, line.as_bytes()) else {
-        return Err("the line is no request")?;
-    };
-    let mut out = Vec::from_slice(alloc, b">")?;
-    request
-        .print(alloc, &mut out)
-        .ok()
-        .ok_or("memory was refused")?;
-    Ok(String::from_utf8(out).ok().ok_or("a request is no text")?)
+/// What is printed of a request, behind a mark; none where memory is wanted.
+fn printed(alloc: Global, request: &Request) -> Option<String> {
+    let mut out = Vec::new(alloc);
+    out.extend_from_slice(b">").ok()?;
+    request.print(alloc, &mut out).ok()?;
+    String::from_utf8(out).ok()
+}
+
+/// The canonical text of the request that a line is.
+fn canonical(alloc: Global, line: &str) -> Option<String> {
+    match Request::read_text(alloc, line.as_bytes()) {
+        Ok(request) => printed(alloc, &request),
+        Err(_) => None,
+    }
 }
 
 #[test]
-fn a_request_has_its_canonical_text(rt: HostRuntime) -> Result<(), Fail> {
-    let alloc = rt.alloc();
+fn a_request_has_its_canonical_text(rt: HostRuntime) {
     for (line, text) in TEXTS {
-        let want = format!(in alloc; ">{text}")?;
-        assert_eq!(rt; canonical(alloc, line)?.as_str(), want.as_str());
-        assert_eq!(rt; canonical(alloc, text)?.as_str(), want.as_str());
+        expect(&rt, line, canonical(rt.alloc(), line), &MARKED, text);
+        expect(&rt, text, canonical(rt.alloc(), text), &MARKED, text);
     }
-    Ok(())
 }

@@ -1,126 +1,145 @@
 //! Replies as they are printed, byte by byte.
-use crate::tests::{line_of, printed};
-use desk_words::{Answer, Field, Limit, Refusal, Reply, Request};
+use crate::rows::{REFUSED, WHOLE, expect};
+use crate::tests::{line_of, refused, told_of};
+use desk_words::{Answer, Field, Limit, Refusal, Reply};
 use reg_base::{Code, DocState, EntryFault, List, PostFault, Scale, SumRow, Value};
 use reg_io::Line;
 use std::alloc::Global;
+use std::process::Abort;
 use std::test::Fail;
 
-fn scale(decimals: u8) -> Result<Scale, Fail> {
-    Ok(Scale::new(decimals).ok_or("no scale")?)
+/// What is printed of an answer.
+fn done(alloc: Global, answer: Answer) -> Option<String> {
+    line_of(alloc, &Reply::Done(answer))
+}
+
+/// The sums of nails.
+fn nails(alloc: Global) -> Option<SumRow> {
+    let nail = Code::parse("nail")?;
+    let group = List::from_slice(alloc, &[Value::Code(nail)]).ok()?;
+    let sums = List::from_slice(alloc, &[10_000, 5_000]).ok()?;
+    Some(SumRow { group, sums })
+}
+
+/// A balance of one row, with a quantity and an amount.
+fn balance(alloc: Global) -> Option<Answer> {
+    let scales = List::from_slice(alloc, &[Scale::new(3)?, Scale::new(2)?]).ok()?;
+    let mut rows = List::new(alloc);
+    rows.push(nails(alloc)?).ok()?;
+    Some(Answer::Balance { rows, scales })
+}
+
+/// What is printed of that balance.
+fn balance_line(alloc: Global) -> Option<String> {
+    done(alloc, balance(alloc)?)
 }
 
 #[test]
-fn accepted_replies_are_printed(rt: HostRuntime) -> Result<(), Fail> {
+fn accepted_replies_are_printed(rt: HostRuntime) {
     let alloc = rt.alloc();
-    let posted = Reply::Done(Answer::Document {
+    let posted = Answer::Document {
         active: true,
         doc: 1,
         state: DocState::Posted,
-    });
-    assert_eq!(rt;
-        line_of(alloc, posted)?.as_str(),
-        "{\"ok\":{\"active\":true,\"doc\":1,\"state\":\"posted\"}}"
-    );
-    let none = Reply::Done(Answer::Balance {
+    };
+    let wanted = "{\"ok\":{\"active\":true,\"doc\":1,\"state\":\"posted\"}}";
+    expect(&rt, "a document", done(alloc, posted), &WHOLE, wanted);
+    let empty = Answer::Balance {
         rows: List::new(alloc),
         scales: List::new(alloc),
-    });
-    assert_eq!(rt; line_of(alloc, none)?.as_str(), "{\"ok\":{\"rows\":[]}}");
-    let nail = Code::parse("nail").ok_or("no code")?;
-    let mut rows = List::new(alloc);
-    rows.push(SumRow {
-        group: List::from_slice(alloc, &[Value::Code(nail)])?,
-        sums: List::from_slice(alloc, &[10_000, 5_000])?,
-    })?;
-    let rows = Reply::Done(Answer::Balance {
-        rows,
-        scales: List::from_slice(alloc, &[scale(3)?, scale(2)?])?,
-    });
-    assert_eq!(rt;
-        line_of(alloc, rows)?.as_str(),
-        "{\"ok\":{\"rows\":[{\"group\":[\"nail\"],\"sums\":[\"10.000\",\"50.00\"]}]}}"
-    );
-    Ok(())
+    };
+    let wanted = "{\"ok\":{\"rows\":[]}}";
+    expect(&rt, "no rows", done(alloc, empty), &WHOLE, wanted);
+    let wanted = "{\"ok\":{\"rows\":[{\"group\":[\"nail\"],\"sums\":[\"10.000\",\"50.00\"]}]}}";
+    expect(&rt, "a row", balance_line(alloc), &WHOLE, wanted);
 }
 
-/// The refusal of a fault of posting that tells no quantity.
-fn rule(fault: PostFault) -> Refusal {
-    Refusal::Rule { fault, scale: None }
+/// Asks for the members that are printed of a refusal.
+fn expect_refused(rt: &impl Abort, alloc: Global, refusal: Refusal, wanted: &str) {
+    expect(rt, wanted, refused(alloc, refusal), &REFUSED, wanted);
+}
+
+/// Faults of posting that tell neither a code nor a quantity, each with its members.
+const FAULTS: [(PostFault, &str); 4] = [
+    (
+        PostFault::TooManyRecords,
+        "\"code\":15,\"fault\":5,\"name\":\"Rule\"",
+    ),
+    (
+        PostFault::Overflow { rule: 3, line: 1 },
+        "\"code\":15,\"fault\":3,\"line\":1,\"name\":\"Rule\",\"rule\":3",
+    ),
+    (
+        PostFault::Entry {
+            rule: 4,
+            line: 1,
+            fault: EntryFault::ExtraCount,
+        },
+        "\"code\":15,\"entry\":3,\"fault\":4,\"line\":1,\"name\":\"Rule\",\"rule\":4",
+    ),
+    (
+        PostFault::Negative { rule: 1, line: 1 },
+        "\"code\":15,\"fault\":6,\"line\":1,\"name\":\"Rule\",\"rule\":1",
+    ),
+];
+
+/// Asks for the members that are printed of a fault of posting.
+fn expect_fault(
+    rt: &impl Abort,
+    alloc: Global,
+    fault: &PostFault,
+    scale: Option<Scale>,
+    wanted: &str,
+) {
+    let refusal = Refusal::Rule {
+        fault: *fault,
+        scale,
+    };
+    expect_refused(rt, alloc, refusal, wanted);
 }
 
 #[test]
-fn refusals_are_printed(rt: HostRuntime) -> Result<(), Fail> {
-    let alloc = rt.alloc();
-    let nail = Code::parse("nail").ok_or("no code")?;
-    for (refusal, wanted) in [
-        (
-            Refusal::UnknownClerk,
-            "\"code\":2,\"name\":\"UnknownClerk\"",
-        ),
-        (
-            Refusal::BadField {
-                field: Field::Space,
-            },
-            "\"code\":11,\"field\":\"space\",\"name\":\"BadField\"",
-        ),
-        (
-            Refusal::Limit {
-                which: Limit::Numbers,
-                number: 4_294_967_295,
-            },
-            "\"code\":14,\"name\":\"Limit\",\"number\":4294967295,\"which\":\"numbers\"",
-        ),
-        (
-            rule(PostFault::TooManyRecords),
-            "\"code\":15,\"fault\":5,\"name\":\"Rule\"",
-        ),
-        (
-            rule(PostFault::Broken {
-                rule: 2,
-                line: 0,
-                code: nail,
-            }),
-            "\"code\":15,\"fault\":1,\"line\":0,\"name\":\"Rule\",\"rule\":2,\"text\":\"nail\"",
-        ),
-        (
-            Refusal::Rule {
-                fault: PostFault::Shortage {
-                    rule: 1,
-                    line: 2,
-                    missing: 1,
-                },
-                scale: Scale::new(3),
-            },
-            "\"code\":15,\"fault\":2,\"line\":2,\"missing\":\"0.001\",\"name\":\"Rule\",\"rule\":1",
-        ),
-        (
-            rule(PostFault::Overflow { rule: 3, line: 1 }),
-            "\"code\":15,\"fault\":3,\"line\":1,\"name\":\"Rule\",\"rule\":3",
-        ),
-        (
-            rule(PostFault::Entry {
-                rule: 4,
-                line: 1,
-                fault: EntryFault::ExtraCount,
-            }),
-            "\"code\":15,\"entry\":3,\"fault\":4,\"line\":1,\"name\":\"Rule\",\"rule\":4",
-        ),
-        (
-            rule(PostFault::Negative { rule: 1, line: 1 }),
-            "\"code\":15,\"fault\":6,\"line\":1,\"name\":\"Rule\",\"rule\":1",
-        ),
-    ] {
-        let wanted = format!(in alloc; "{{\"refused\":{{{wanted}}}}}")?;
-        assert_eq!(rt; printed(alloc, refusal)?.as_str(), wanted.as_str());
+fn faults_of_posting_are_printed(rt: HostRuntime) -> Result<(), Fail> {
+    let code = Code::parse("nail").ok_or("no code")?;
+    for (fault, wanted) in &FAULTS {
+        expect_fault(&rt, rt.alloc(), fault, None, wanted);
     }
-    let long = Line::TooLong { bytes: 1_048_577 };
-    let Err(fault) = Request::read(alloc, &long) else {
-        return Err("the line is a request")?;
+    let broken = PostFault::Broken {
+        rule: 2,
+        line: 0,
+        code,
     };
-    assert_eq!(rt;
-        printed(alloc, Refusal::BadLine(fault))?.as_str(),
-        "{\"refused\":{\"bytes\":1048577,\"code\":1,\"kind\":1,\"name\":\"BadLine\"}}"
-    );
+    let wanted =
+        "\"code\":15,\"fault\":1,\"line\":0,\"name\":\"Rule\",\"rule\":2,\"text\":\"nail\"";
+    expect_fault(&rt, rt.alloc(), &broken, None, wanted);
+    let shortage = PostFault::Shortage {
+        rule: 1,
+        line: 2,
+        missing: 1,
+    };
+    let wanted = "\"code\":15,\"fault\":2,\"line\":2,\"missing\":\"0.001\",\"name\":\"Rule\",\
+        \"rule\":1";
+    expect_fault(&rt, rt.alloc(), &shortage, Scale::new(3), wanted);
     Ok(())
+}
+
+#[test]
+fn refusals_are_printed(rt: HostRuntime) {
+    let alloc = rt.alloc();
+    let wanted = "\"code\":2,\"name\":\"UnknownClerk\"";
+    expect_refused(&rt, alloc, Refusal::UnknownClerk, wanted);
+    let refusal = Refusal::BadField {
+        field: Field::Space,
+    };
+    let wanted = "\"code\":11,\"field\":\"space\",\"name\":\"BadField\"";
+    expect_refused(&rt, alloc, refusal, wanted);
+    let refusal = Refusal::Limit {
+        which: Limit::Numbers,
+        number: 4_294_967_295,
+    };
+    let wanted = "\"code\":14,\"name\":\"Limit\",\"number\":4294967295,\"which\":\"numbers\"";
+    expect_refused(&rt, alloc, refusal, wanted);
+    let told = told_of(alloc, &Line::TooLong { bytes: 1_048_577 });
+    let wanted = "\"bytes\":1048577,\"code\":1,\"kind\":1,\"name\":\"BadLine\"";
+    expect(&rt, "a long line", told, &REFUSED, wanted);
 }
