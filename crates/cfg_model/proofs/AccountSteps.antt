@@ -1,5 +1,5 @@
 -- The accounts of a ledger are read, checked in one step, and sorted.
-use Rattle.std.proofs.Common.{◌≡◌, ℕ, List, [], codes, length, Result, Ok, Err, refl, ap, sym, ◌∙◌}
+use Rattle.std.proofs.Common.{◌≡◌, ℕ, List, [], codes, length, Result, Ok, Err, refl, ap, ◌∙◌}
 use Rattle.toml.specs.Data.{Members}
 use Rattle.reg_base.specs.Results.{◌>>=◌, some_or}
 use Rattle.cfg_model.specs.declared.account.Account.{Account}

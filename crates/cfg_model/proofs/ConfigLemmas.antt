@@ -80,7 +80,9 @@ config_of-holds top config e =
     let ledgers = read_group-all (codes "ledger") ledger_limit (read_ledger rs) IsLedger (read_ledger-holds rs) keys ls are_ledgers in
     let kinds = read_group-all (codes "document") document_limit read_kind IsKindWithinLimits read_kind-within keys ks are_kinds in
     let sequences = read_group-all (codes "sequence") sequence_limit (read_sequence rs ks) (HasNames rs ks) (read_sequence-names rs ks) keys ss are_sequences in
-    subst Holds (same_Ok _ _ made) (record {
+    subst Holds
+    {x = record { registers = rs; ledgers = ls; kinds = ks; sequences = ss; clerks = cs }}
+    (same_Ok _ _ made) (record {
       within = record {
         few_registers = read_group-few (codes "register") register_limit read_register keys rs are_registers;
         few_ledgers = read_group-few (codes "ledger") ledger_limit (read_ledger rs) keys ls are_ledgers;

@@ -15,7 +15,7 @@ use Rattle.cfg_model.specs.Accounts.{read_accounts}
 use Rattle.cfg_model.specs.Kinds.{read_fields}
 
 -- the keys of a register: its kind, its dimensions, its resources, its splitting
-unfoldable pub register_of : List ℕ → Members → Result Register CfgFault
+abbrev pub register_of : List ℕ → Members → Result Register CfgFault
 register_of name keys = do
   balance ← read_balance name keys
   ds ← read_dimensions name keys
@@ -24,7 +24,7 @@ register_of name keys = do
   Ok (record { name = name; balance = balance; dimensions = ds; resources = rs; split = split })
 
 -- the keys of a ledger: its scale, its splitting, its accounts
-unfoldable pub ledger_of : List ℕ → Members → Result Chart CfgFault
+abbrev pub ledger_of : List ℕ → Members → Result Chart CfgFault
 ledger_of name keys = do
   scale ← read_scale name keys
   split ← read_split (codes "ledger") name keys
@@ -32,7 +32,7 @@ ledger_of name keys = do
   Ok (record { name = name; scale = scale; split = split; accounts = accounts })
 
 -- the keys of a document type: its head, its lines, the text of its rules
-unfoldable pub kind_of : List ℕ → Members → Result Kind CfgFault
+abbrev pub kind_of : List ℕ → Members → Result Kind CfgFault
 kind_of name keys = do
   head ← read_fields name (codes "head") keys
   lines ← read_fields name (codes "lines") keys

@@ -94,7 +94,7 @@ impl FromEntry for Kind {
 
     ghost name_of = { λ kind. kind.name };
 
-    #[tactic(auto, unfolding(crate::specs::Kinds::read_kind, crate::specs::EntryParts::kind_of))]
+    #[tactic(auto, unfolding(crate::specs::Kinds::read_kind))]
     fn read(alloc: Global, _config: &Config, name: &str, value: &Value) -> Result<Kind, CfgFault> {
         let known = ["head", "lines", "rules"];
         let keys = entry_keys(alloc, "document", &[], &known, name, value)?;
@@ -108,7 +108,6 @@ impl FromEntry for Kind {
 }
 
 /// The document type that the keys of an entry say.
-#[tactic(auto, unfolding(crate::specs::EntryParts::kind_of))]
 fn kind_of(alloc: Global, entry: &Entry, name: Name) -> Result<Kind, CfgFault>
     requires group { entry.now.group.now ≡ codes "document" }
     requires name { name ≡ entry.now.name.now }

@@ -30,7 +30,7 @@ impl FromEntry for Chart {
 
     ghost name_of = { λ chart. chart.name };
 
-    #[tactic(auto, unfolding(crate::specs::Ledgers::read_ledger, crate::specs::EntryParts::ledger_of))]
+    #[tactic(auto, unfolding(crate::specs::Ledgers::read_ledger))]
     fn read(alloc: Global, config: &Config, name: &str, value: &Value) -> Result<Chart, CfgFault> {
         let known = ["scale", "split", "accounts"];
         let registers = config.registers.as_slice();
@@ -45,7 +45,6 @@ impl FromEntry for Chart {
 }
 
 /// The ledger that the keys of an entry say.
-#[tactic(auto, unfolding(crate::specs::EntryParts::ledger_of))]
 fn chart_of(alloc: Global, entry: &Entry, name: Name) -> Result<Chart, CfgFault>
     requires group { entry.now.group.now ≡ codes "ledger" }
     requires name { name ≡ entry.now.name.now }

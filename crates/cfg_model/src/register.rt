@@ -139,7 +139,7 @@ impl FromEntry for Register {
 
     ghost name_of = { λ register. register.name };
 
-    #[tactic(auto, unfolding(crate::specs::Registers::read_register, crate::specs::EntryParts::register_of))]
+    #[tactic(auto, unfolding(crate::specs::Registers::read_register))]
     fn read(
         alloc: Global,
         _config: &Config,
@@ -158,7 +158,6 @@ impl FromEntry for Register {
 }
 
 /// The register that the keys of an entry say.
-#[tactic(auto, unfolding(crate::specs::EntryParts::register_of))]
 fn register_of(alloc: Global, entry: &Entry, name: Name) -> Result<Register, CfgFault>
     requires group { entry.now.group.now ≡ codes "register" }
     requires name { name ≡ entry.now.name.now }
