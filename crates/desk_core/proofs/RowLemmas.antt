@@ -13,10 +13,9 @@ use Rattle.std.proofs.lemmas.Int.{ints}
 use Rattle.std.proofs.lemmas.List.{length-map}
 use Rattle.std.proofs.lemmas.Cmp.{tied_itself}
 use Rattle.reg_base.specs.declared.value.Value.{Value}
-use Rattle.reg_base.specs.declared.value.Value.TheVariants.{Code, Lot}
 use Rattle.reg_base.specs.contracts.value.ValueOrd.TheImpl.{ghosts}
 use Rattle.reg_base.specs.declared.records.SumRow.{SumRow}
-use Rattle.reg_base.specs.Records.{Booked, value_cmp, values_cmp, put_once, amount_at}
+use Rattle.reg_base.specs.Records.{Booked, values_cmp, put_once, amount_at}
 use Rattle.reg_base.specs.Balances.{group_of, groups_of, total, share, is_shown, sum_rows}
 use Rattle.reg_base.proofs.OrderLemmas.{derived-value_cmp, values_cmp_total, values_cmp_exact}
 use Rattle.reg_base.proofs.BalanceLemmas.{groups_of-push, total-push}
