@@ -1,4 +1,5 @@
-//! Tests of the run: lines, files and failing calls with what is told of them, worked out by hand.
+//! Tests of the run that only code can make: calls that fail, inputs in pieces, and a step alone.
+//! What lines and files are answered is tested with the program, by the rows of `examples/rows`.
 //!
 //! Means: nothing; it has tests alone, apart from the crates that they try, since the tests of a
 //! crate have it proved a second time.
@@ -11,16 +12,8 @@
 #![tactic(auto)]
 
 #[cfg(test)]
-mod failing_table;
+mod failing_tests;
 #[cfg(test)]
-mod field_rows;
+mod shop;
 #[cfg(test)]
-mod line_rows;
-#[cfg(test)]
-mod line_table;
-#[cfg(test)]
-mod rules_table;
-#[cfg(test)]
-mod spaces_table;
-#[cfg(test)]
-mod tests;
+mod step_tests;
