@@ -1,6 +1,4 @@
 //! A whole configuration with what it says, and entries of a small chart with what is told of them.
-use cfg_model::EntryFault;
-
 /// A configuration with each group: stock in lots and in sum, their sales, a ledger, a sequence.
 pub(crate) const WHOLE_SHOP: &str = r#"
 [register.stock]
@@ -107,94 +105,43 @@ main:2 001,Leased,Active,off 002,Goods kept,Both,off,item 10,Goods,Active \
 101,Goods here,Active,of 10,item,place 60,Suppliers,Passive
 ";
 
-/// A side of an entry: the account's code, and how many extras it gives.
-type GivenSide = Option<(&'static str, u8)>;
+/// The account of the debit with how many extras it gives, the same of the credit, and the answer.
+/// A side without an account is not given.
+pub(crate) type Entry = (&'static str, u8, &'static str, u8, &'static str);
 
-/// The debit and the credit of an entry, with what is told of it.
-pub(crate) type Entry = (GivenSide, GivenSide, Result<(), EntryFault>);
+/// Rows of entries.
+pub(crate) type Entries = &'static [Entry];
 
 /// Entries of goods in the whole configuration.
 pub(crate) const GOODS: [Entry; 2] = [
-    (
-        Some(("10", 0)),
-        Some(("60", 0)),
-        Err(EntryFault::ExtraCount),
-    ),
-    (Some(("10", 1)), Some(("60", 0)), Ok(())),
+    ("10", 0, "60", 0, "ExtraCount"),
+    ("10", 1, "60", 0, "accepted"),
 ];
 
 /// Entries of the chart.
 pub(crate) const ENTRIES: [Entry; 24] = [
-    (Some(("101", 2)), Some(("60", 0)), Ok(())),
-    (Some(("60", 0)), Some(("101", 2)), Ok(())),
-    (Some(("60", 0)), Some(("60", 0)), Ok(())),
-    (Some(("001", 0)), None, Ok(())),
-    (None, Some(("002", 1)), Ok(())),
-    (Some(("001", 0)), Some(("002", 1)), Ok(())),
-    (
-        Some(("7", 0)),
-        Some(("60", 0)),
-        Err(EntryFault::UnknownAccount),
-    ),
-    (
-        Some(("60", 0)),
-        Some(("7", 0)),
-        Err(EntryFault::UnknownAccount),
-    ),
-    (None, Some(("7", 0)), Err(EntryFault::UnknownAccount)),
-    (
-        Some(("10", 0)),
-        Some(("60", 0)),
-        Err(EntryFault::GroupAccount),
-    ),
-    (
-        Some(("60", 0)),
-        Some(("10", 0)),
-        Err(EntryFault::GroupAccount),
-    ),
-    (
-        Some(("101", 1)),
-        Some(("60", 0)),
-        Err(EntryFault::ExtraCount),
-    ),
-    (
-        Some(("101", 3)),
-        Some(("60", 0)),
-        Err(EntryFault::ExtraCount),
-    ),
-    (
-        Some(("101", 2)),
-        Some(("60", 1)),
-        Err(EntryFault::ExtraCount),
-    ),
-    (None, None, Err(EntryFault::Sides)),
-    (Some(("60", 0)), None, Err(EntryFault::Sides)),
-    (None, Some(("60", 0)), Err(EntryFault::Sides)),
-    (Some(("001", 0)), Some(("60", 0)), Err(EntryFault::Sides)),
-    (Some(("60", 0)), Some(("001", 0)), Err(EntryFault::Sides)),
-    (
-        Some(("10", 0)),
-        Some(("7", 0)),
-        Err(EntryFault::UnknownAccount),
-    ),
-    (
-        Some(("7", 0)),
-        Some(("10", 0)),
-        Err(EntryFault::UnknownAccount),
-    ),
-    (
-        Some(("101", 0)),
-        Some(("10", 0)),
-        Err(EntryFault::GroupAccount),
-    ),
-    (
-        Some(("10", 1)),
-        Some(("101", 0)),
-        Err(EntryFault::GroupAccount),
-    ),
-    (
-        Some(("001", 1)),
-        Some(("60", 0)),
-        Err(EntryFault::ExtraCount),
-    ),
+    ("101", 2, "60", 0, "accepted"),
+    ("60", 0, "101", 2, "accepted"),
+    ("60", 0, "60", 0, "accepted"),
+    ("001", 0, "", 0, "accepted"),
+    ("", 0, "002", 1, "accepted"),
+    ("001", 0, "002", 1, "accepted"),
+    ("7", 0, "60", 0, "UnknownAccount"),
+    ("60", 0, "7", 0, "UnknownAccount"),
+    ("", 0, "7", 0, "UnknownAccount"),
+    ("10", 0, "60", 0, "GroupAccount"),
+    ("60", 0, "10", 0, "GroupAccount"),
+    ("101", 1, "60", 0, "ExtraCount"),
+    ("101", 3, "60", 0, "ExtraCount"),
+    ("101", 2, "60", 1, "ExtraCount"),
+    ("", 0, "", 0, "Sides"),
+    ("60", 0, "", 0, "Sides"),
+    ("", 0, "60", 0, "Sides"),
+    ("001", 0, "60", 0, "Sides"),
+    ("60", 0, "001", 0, "Sides"),
+    ("10", 0, "7", 0, "UnknownAccount"),
+    ("7", 0, "10", 0, "UnknownAccount"),
+    ("101", 0, "10", 0, "GroupAccount"),
+    ("10", 1, "101", 0, "GroupAccount"),
+    ("001", 1, "60", 0, "ExtraCount"),
 ];

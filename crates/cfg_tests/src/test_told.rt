@@ -4,86 +4,113 @@ use cfg_model::{
     Sequence,
 };
 use reg_base::Name;
-use std::alloc::{AllocError, Global};
+use std::alloc::Global;
 
-/// A line for each register, ledger, document type, sequence and clerk.
-pub(crate) fn told(alloc: Global, config: &Config) -> Result<String, AllocError> {
-    let mut out = String::new(alloc);
-    tell(alloc, &mut out, config)?;
-    Ok(out)
+/// A text that grows piece by piece, until memory is refused.
+#[derive(Drop)]
+struct Telling {
+    text: String,
+    is_whole: bool,
 }
 
-fn tell(alloc: Global, out: &mut String, config: &Config) -> Result<(), AllocError> {
+impl Telling {
+    fn add(&mut self, piece: &str) {
+        if self.text.push_str(piece).is_err() {
+            self.is_whole = false;
+        }
+    }
+
+    fn add_number(&mut self, number: usize) {
+        match format!(in *self.text.allocator(); "{number}") {
+            Ok(digits) => self.add(digits.as_str()),
+            Err(_) => self.is_whole = false,
+        }
+    }
+}
+
+/// A line for each register, ledger, document type, sequence and clerk; none where memory is
+/// wanted.
+pub(crate) fn told(alloc: Global, config: &Config) -> Option<String> {
+    let mut out = Telling {
+        text: String::new(alloc),
+        is_whole: true,
+    };
+    tell(&mut out, config);
+    let Telling { text, is_whole } = out;
+    if is_whole { Some(text) } else { None }
+}
+
+fn tell(out: &mut Telling, config: &Config) {
     for register in config.registers.as_slice() {
-        tell_register(alloc, out, register)?;
+        tell_register(out, register);
     }
     for chart in config.ledgers.as_slice() {
-        tell_chart(alloc, out, chart)?;
+        tell_chart(out, chart);
     }
     for kind in config.kinds.as_slice() {
-        tell_kind(alloc, out, kind)?;
+        tell_kind(out, kind);
     }
     for sequence in config.sequences.as_slice() {
-        tell_sequence(out, sequence)?;
+        tell_sequence(out, sequence);
     }
     for clerk in config.clerks.as_slice() {
-        tell_clerk(out, clerk)?;
+        tell_clerk(out, clerk);
     }
-    Ok(())
 }
 
-fn tell_register(alloc: Global, out: &mut String, register: &Register) -> Result<(), AllocError> {
-    out.push_str(register.name.as_str())?;
-    out.push_str(if register.balance {
+fn tell_register(out: &mut Telling, register: &Register) {
+    out.add(register.name.as_str());
+    out.add(if register.balance {
         " balance"
     } else {
         " turnover"
-    })?;
-    out.push_str(if register.split { " split" } else { "" })?;
+    });
+    out.add(if register.split { " split" } else { "" });
     for dimension in register.dimensions.as_slice() {
-        tell_dimension(out, dimension)?;
+        tell_dimension(out, dimension);
     }
     for resource in register.resources.as_slice() {
-        tell_resource(alloc, out, resource)?;
+        tell_resource(out, resource);
     }
-    out.push_str("\n")
+    out.add("\n");
 }
 
-fn tell_dimension(out: &mut String, dimension: &Dimension) -> Result<(), AllocError> {
-    out.push_str(" ")?;
-    out.push_str(dimension.name.as_str())?;
-    out.push_str(if dimension.lot { ":lot" } else { ":code" })
+fn tell_dimension(out: &mut Telling, dimension: &Dimension) {
+    out.add(" ");
+    out.add(dimension.name.as_str());
+    out.add(if dimension.lot { ":lot" } else { ":code" });
 }
 
-fn tell_resource(alloc: Global, out: &mut String, resource: &Resource) -> Result<(), AllocError> {
-    let name = resource.name.as_str();
-    let scale = resource.scale.get();
-    out.push_str(format!(in alloc; " {name}:{scale}")?.as_str())
+fn tell_resource(out: &mut Telling, resource: &Resource) {
+    out.add(" ");
+    out.add(resource.name.as_str());
+    out.add(":");
+    out.add_number(usize::from(resource.scale.get()));
 }
 
-fn tell_chart(alloc: Global, out: &mut String, chart: &Chart) -> Result<(), AllocError> {
-    let name = chart.name.as_str();
-    let scale = chart.scale.get();
-    out.push_str(format!(in alloc; "{name}:{scale}")?.as_str())?;
-    out.push_str(if chart.split { " split" } else { "" })?;
+fn tell_chart(out: &mut Telling, chart: &Chart) {
+    out.add(chart.name.as_str());
+    out.add(":");
+    out.add_number(usize::from(chart.scale.get()));
+    out.add(if chart.split { " split" } else { "" });
     for account in chart.accounts.as_slice() {
-        tell_account(out, account)?;
+        tell_account(out, account);
     }
-    out.push_str("\n")
+    out.add("\n");
 }
 
-fn tell_account(out: &mut String, account: &Account) -> Result<(), AllocError> {
-    out.push_str(" ")?;
-    out.push_str(account.code.as_str())?;
-    out.push_str(",")?;
-    out.push_str(account.name.as_str())?;
-    out.push_str(nature_word(account.nature))?;
-    out.push_str(if account.off { ",off" } else { "" })?;
+fn tell_account(out: &mut Telling, account: &Account) {
+    out.add(" ");
+    out.add(account.code.as_str());
+    out.add(",");
+    out.add(account.name.as_str());
+    out.add(nature_word(account.nature));
+    out.add(if account.off { ",off" } else { "" });
     if let Some(parent) = &account.parent {
-        out.push_str(",of ")?;
-        out.push_str(parent.as_str())?;
+        out.add(",of ");
+        out.add(parent.as_str());
     }
-    tell_names(out, ",", account.extras.as_slice())
+    tell_names(out, ",", account.extras.as_slice());
 }
 
 fn nature_word(nature: Nature) -> &'static str {
@@ -94,61 +121,60 @@ fn nature_word(nature: Nature) -> &'static str {
     }
 }
 
-fn tell_names(out: &mut String, mark: &str, names: &[Name]) -> Result<(), AllocError> {
+fn tell_names(out: &mut Telling, mark: &str, names: &[Name]) {
     for name in names {
-        out.push_str(mark)?;
-        out.push_str(name.as_str())?;
+        out.add(mark);
+        out.add(name.as_str());
     }
-    Ok(())
 }
 
-fn tell_kind(alloc: Global, out: &mut String, kind: &Kind) -> Result<(), AllocError> {
-    out.push_str(kind.name.as_str())?;
-    tell_fields(alloc, out, kind.head.as_slice())?;
-    out.push_str(" |")?;
-    tell_fields(alloc, out, kind.lines.as_slice())?;
-    let length = kind.rules.as_str().len();
-    out.push_str(format!(in alloc; " | {length}\n")?.as_str())
+fn tell_kind(out: &mut Telling, kind: &Kind) {
+    out.add(kind.name.as_str());
+    tell_fields(out, kind.head.as_slice());
+    out.add(" |");
+    tell_fields(out, kind.lines.as_slice());
+    out.add(" | ");
+    out.add_number(kind.rules.as_str().len());
+    out.add("\n");
 }
 
-fn tell_fields(alloc: Global, out: &mut String, fields: &[Field]) -> Result<(), AllocError> {
+fn tell_fields(out: &mut Telling, fields: &[Field]) {
     for field in fields {
-        tell_field(alloc, out, field)?;
+        tell_field(out, field);
     }
-    Ok(())
 }
 
-fn tell_field(alloc: Global, out: &mut String, field: &Field) -> Result<(), AllocError> {
-    let name = field.name.as_str();
-    match field.scale {
+fn tell_field(out: &mut Telling, field: &Field) {
+    out.add(" ");
+    out.add(field.name.as_str());
+    match &field.scale {
         Some(scale) => {
-            let scale = scale.get();
-            out.push_str(format!(in alloc; " {name}:{scale}")?.as_str())
+            out.add(":");
+            out.add_number(usize::from(scale.get()));
         }
-        None => out.push_str(format!(in alloc; " {name}:code")?.as_str()),
+        None => out.add(":code"),
     }
 }
 
-fn tell_sequence(out: &mut String, sequence: &Sequence) -> Result<(), AllocError> {
-    out.push_str(sequence.name.as_str())?;
-    tell_names(out, " ", sequence.kinds.as_slice())?;
-    out.push_str(" |")?;
-    tell_names(out, " ", sequence.registers.as_slice())?;
-    out.push_str(" |")?;
-    tell_names(out, " ", sequence.dimensions.as_slice())?;
-    out.push_str("\n")
+fn tell_sequence(out: &mut Telling, sequence: &Sequence) {
+    out.add(sequence.name.as_str());
+    tell_names(out, " ", sequence.kinds.as_slice());
+    out.add(" |");
+    tell_names(out, " ", sequence.registers.as_slice());
+    out.add(" |");
+    tell_names(out, " ", sequence.dimensions.as_slice());
+    out.add("\n");
 }
 
-fn tell_clerk(out: &mut String, clerk: &Clerk) -> Result<(), AllocError> {
-    out.push_str(clerk.name.as_str())?;
-    tell_rights(out, clerk.rights.as_slice())?;
-    out.push_str("\n")
+fn tell_clerk(out: &mut Telling, clerk: &Clerk) {
+    out.add(clerk.name.as_str());
+    tell_rights(out, clerk.rights.as_slice());
+    out.add("\n");
 }
 
-fn tell_rights(out: &mut String, rights: &[Right]) -> Result<(), AllocError> {
+fn tell_rights(out: &mut Telling, rights: &[Right]) {
     for right in rights {
-        out.push_str(" ")?;
-        out.push_str(right.word())?;
+        out.add(" ");
+        out.add(right.word());
     }
-    Ok(())
 }

@@ -1,13 +1,14 @@
 //! What the walk through small files answers, and what the program does with what it read.
 use crate::rows::expect;
 use crate::test_files::{ACCOUNTS, DOCUMENTS, FILES, REGISTERS, SEQUENCES, SHOP};
-use crate::test_shop::{CHART, CHART_TOLD, ENTRIES, Entry, GOODS, WHOLE_SHOP, WHOLE_SHOP_TOLD};
+use crate::test_shop::{
+    CHART, CHART_TOLD, ENTRIES, Entries, Entry, GOODS, WHOLE_SHOP, WHOLE_SHOP_TOLD,
+};
 use crate::test_told::told;
-use cfg_model::{Config, check_entry};
+use cfg_model::{Chart, Config, EntryFault, check_entry};
 use reg_base::{Code, List, Name, Side};
 use std::alloc::{AllocError, Global};
 use std::process::Abort;
-use std::test::Fail;
 
 /// What is told of a file: its fault, or that it is accepted; none where memory is wanted.
 fn told_of(alloc: Global, file: &[u8]) -> Option<String> {
@@ -122,10 +123,15 @@ fn bytes_that_are_no_text_are_no_toml(rt: HostRuntime) {
 }
 
 /// The places of the register `stock` and of the clerk `anna`.
-fn places(config: &Config) -> Option<(usize, usize)> {
+fn places_in(config: &Config) -> Option<(usize, usize)> {
     let register = config.register_place(&Name::parse("stock")?)?;
     let clerk = config.clerk_place(&Name::parse("anna")?)?;
     Some((register, clerk))
+}
+
+fn places(alloc: Global, file: &str) -> Option<(usize, usize)> {
+    let config = Config::read(alloc, file.as_bytes()).ok()?;
+    places_in(&config)
 }
 
 /// Registers and clerks, the later name of each first.
@@ -134,16 +140,14 @@ const SWAPPED: &str = "[register.stock]\nkind = 'balance'\ndimensions = ['item:c
     resources = ['amount:2']\n[clerk.boris]\nrights = []\n[clerk.anna]\nrights = ['read']\n";
 
 #[test]
-fn registers_and_clerks_stand_in_byte_order_of_names(rt: HostRuntime) -> Result<(), Fail> {
-    let config = Config::read(rt.alloc(), SWAPPED.as_bytes())?;
-    assert!(rt; places(&config) == Some((1, 0)));
-    Ok(())
+fn registers_and_clerks_stand_in_byte_order_of_names(rt: HostRuntime) {
+    assert!(rt; places(rt.alloc(), SWAPPED) == Some((1, 0)));
 }
 
 /// All that a configuration says; none where it is refused or memory is wanted.
 fn config_told(alloc: Global, file: &str) -> Option<String> {
     let config = Config::read(alloc, file.as_bytes()).ok()?;
-    told(alloc, &config).ok()
+    told(alloc, &config)
 }
 
 #[test]
@@ -166,50 +170,64 @@ fn extras(alloc: Global, extra: Code, count: u8) -> Result<List<Code>, AllocErro
     Ok(extras)
 }
 
-/// The side of an account that gives so many extras, where one is given.
-fn side(alloc: Global, given: &Option<(&str, u8)>) -> Result<Option<Side>, AllocError> {
-    let Some((code, count)) = given else {
+/// The side of an account that gives so many extras, where there is an account.
+fn side(alloc: Global, account: &str, count: u8) -> Result<Option<Side>, AllocError> {
+    let Some(account) = Code::parse(account) else {
         return Ok(None);
     };
-    let Some(account) = Code::parse(code) else {
-        return Ok(None);
-    };
-    let extras = extras(alloc, account, *count)?;
+    let extras = extras(alloc, account, count)?;
     Ok(Some(Side { account, extras }))
 }
 
-/// Whether the chart of a configuration answers an entry as the row says.
-fn is_answered(alloc: Global, config: &Config, row: &Entry) -> bool {
-    let (debit, credit, answer) = row;
-    let Some(chart) = config.ledgers.get(0) else {
-        return false;
-    };
-    let Ok(debit) = side(alloc, debit) else {
-        return false;
-    };
-    match side(alloc, credit) {
-        Ok(credit) => check_entry(chart, &debit, &credit) == *answer,
-        Err(_) => false,
+fn answer_word(answer: Result<(), EntryFault>) -> &'static str {
+    match answer {
+        Ok(()) => "accepted",
+        Err(EntryFault::UnknownAccount) => "UnknownAccount",
+        Err(EntryFault::GroupAccount) => "GroupAccount",
+        Err(EntryFault::ExtraCount) => "ExtraCount",
+        Err(EntryFault::Sides) => "Sides",
     }
 }
 
-/// Asks for the answers to entries of the chart of a configuration.
-fn expect_entries(rt: &impl Abort, alloc: Global, config: &Config, rows: &[Entry]) {
-    for row in rows {
-        assert!(rt; is_answered(alloc, config, row), "{row:?}");
+/// What a chart answers to an entry.
+fn answer_to(alloc: Global, chart: &Chart, entry: &Entry) -> Result<&'static str, AllocError> {
+    let debit = side(alloc, entry.0, entry.1)?;
+    let credit = side(alloc, entry.2, entry.3)?;
+    Ok(answer_word(check_entry(chart, &debit, &credit)))
+}
+
+/// Whether the one chart answers an entry as the row says.
+fn is_answered(alloc: Global, charts: &[Chart], entry: &Entry) -> bool {
+    match charts {
+        [chart] => match answer_to(alloc, chart, entry) {
+            Ok(answer) => answer == entry.4,
+            Err(_) => false,
+        },
+        _ => false,
+    }
+}
+
+/// Asks for the answers of the one chart to entries.
+fn expect_answers(rt: &impl Abort, alloc: Global, charts: &[Chart], entries: Entries) {
+    for entry in entries {
+        assert!(rt; is_answered(alloc, charts, entry), "{entry:?}");
+    }
+}
+
+/// Asks for the answers of the one ledger of a file to entries.
+fn expect_entries(rt: &impl Abort, alloc: Global, file: &str, entries: Entries) {
+    match Config::read(alloc, file.as_bytes()) {
+        Ok(config) => expect_answers(rt, alloc, config.ledgers.as_slice(), entries),
+        Err(_) => panic!(rt; "the file is refused"),
     }
 }
 
 #[test]
-fn an_entry_is_accepted_or_answered_with_its_first_fault(rt: HostRuntime) -> Result<(), Fail> {
-    let config = Config::read(rt.alloc(), CHART.as_bytes())?;
-    expect_entries(&rt, rt.alloc(), &config, &ENTRIES);
-    Ok(())
+fn an_entry_is_accepted_or_answered_with_its_first_fault(rt: HostRuntime) {
+    expect_entries(&rt, rt.alloc(), CHART, &ENTRIES);
 }
 
 #[test]
-fn an_entry_of_goods_gives_the_item(rt: HostRuntime) -> Result<(), Fail> {
-    let config = Config::read(rt.alloc(), WHOLE_SHOP.as_bytes())?;
-    expect_entries(&rt, rt.alloc(), &config, &GOODS);
-    Ok(())
+fn an_entry_of_goods_gives_the_item(rt: HostRuntime) {
+    expect_entries(&rt, rt.alloc(), WHOLE_SHOP, &GOODS);
 }
