@@ -21,11 +21,23 @@ fn nails(alloc: Global) -> Option<SumRow> {
     Some(SumRow { group, sums })
 }
 
-/// A balance of one row, with a quantity and an amount.
-fn balance(alloc: Global) -> Option<Answer> {
-    let scales = List::from_slice(alloc, &[Scale::new(3)?, Scale::new(2)?]).ok()?;
+fn rows(alloc: Global) -> Option<List<SumRow>> {
+    let row = nails(alloc)?;
     let mut rows = List::new(alloc);
-    rows.push(nails(alloc)?).ok()?;
+    rows.push(row).ok()?;
+    Some(rows)
+}
+
+/// The scales of a quantity and an amount.
+fn scales(alloc: Global) -> Option<List<Scale>> {
+    let scales = [Scale::new(3)?, Scale::new(2)?];
+    List::from_slice(alloc, &scales).ok()
+}
+
+/// A balance of one row.
+fn balance(alloc: Global) -> Option<Answer> {
+    let rows = rows(alloc)?;
+    let scales = scales(alloc)?;
     Some(Answer::Balance { rows, scales })
 }
 
@@ -59,30 +71,6 @@ fn expect_refused(rt: &impl Abort, alloc: Global, refusal: Refusal, wanted: &str
     expect(rt, wanted, refused(alloc, refusal), &REFUSED, wanted);
 }
 
-/// Faults of posting that tell neither a code nor a quantity, each with its members.
-const FAULTS: [(PostFault, &str); 4] = [
-    (
-        PostFault::TooManyRecords,
-        "\"code\":15,\"fault\":5,\"name\":\"Rule\"",
-    ),
-    (
-        PostFault::Overflow { rule: 3, line: 1 },
-        "\"code\":15,\"fault\":3,\"line\":1,\"name\":\"Rule\",\"rule\":3",
-    ),
-    (
-        PostFault::Entry {
-            rule: 4,
-            line: 1,
-            fault: EntryFault::ExtraCount,
-        },
-        "\"code\":15,\"entry\":3,\"fault\":4,\"line\":1,\"name\":\"Rule\",\"rule\":4",
-    ),
-    (
-        PostFault::Negative { rule: 1, line: 1 },
-        "\"code\":15,\"fault\":6,\"line\":1,\"name\":\"Rule\",\"rule\":1",
-    ),
-];
-
 /// Asks for the members that are printed of a fault of posting.
 fn expect_fault(
     rt: &impl Abort,
@@ -99,11 +87,36 @@ fn expect_fault(
 }
 
 #[test]
-fn faults_of_posting_are_printed(rt: HostRuntime) -> Result<(), Fail> {
+fn faults_of_posting_are_printed(rt: HostRuntime) {
+    let alloc = rt.alloc();
+    let wanted = "\"code\":15,\"fault\":5,\"name\":\"Rule\"";
+    expect_fault(&rt, alloc, &PostFault::TooManyRecords, None, wanted);
+    let overflow = PostFault::Overflow { rule: 3, line: 1 };
+    let wanted = "\"code\":15,\"fault\":3,\"line\":1,\"name\":\"Rule\",\"rule\":3";
+    expect_fault(&rt, alloc, &overflow, None, wanted);
+    let entry = PostFault::Entry {
+        rule: 4,
+        line: 1,
+        fault: EntryFault::ExtraCount,
+    };
+    let wanted = "\"code\":15,\"entry\":3,\"fault\":4,\"line\":1,\"name\":\"Rule\",\"rule\":4";
+    expect_fault(&rt, alloc, &entry, None, wanted);
+    let negative = PostFault::Negative { rule: 1, line: 1 };
+    let wanted = "\"code\":15,\"fault\":6,\"line\":1,\"name\":\"Rule\",\"rule\":1";
+    expect_fault(&rt, alloc, &negative, None, wanted);
+    let shortage = PostFault::Shortage {
+        rule: 1,
+        line: 2,
+        missing: 1,
+    };
+    let wanted = "\"code\":15,\"fault\":2,\"line\":2,\"missing\":\"0.001\",\"name\":\"Rule\",\
+        \"rule\":1";
+    expect_fault(&rt, alloc, &shortage, Scale::new(3), wanted);
+}
+
+#[test]
+fn a_broken_rule_tells_its_code(rt: HostRuntime) -> Result<(), Fail> {
     let code = Code::parse("nail").ok_or("no code")?;
-    for (fault, wanted) in &FAULTS {
-        expect_fault(&rt, rt.alloc(), fault, None, wanted);
-    }
     let broken = PostFault::Broken {
         rule: 2,
         line: 0,
@@ -112,14 +125,6 @@ fn faults_of_posting_are_printed(rt: HostRuntime) -> Result<(), Fail> {
     let wanted =
         "\"code\":15,\"fault\":1,\"line\":0,\"name\":\"Rule\",\"rule\":2,\"text\":\"nail\"";
     expect_fault(&rt, rt.alloc(), &broken, None, wanted);
-    let shortage = PostFault::Shortage {
-        rule: 1,
-        line: 2,
-        missing: 1,
-    };
-    let wanted = "\"code\":15,\"fault\":2,\"line\":2,\"missing\":\"0.001\",\"name\":\"Rule\",\
-        \"rule\":1";
-    expect_fault(&rt, rt.alloc(), &shortage, Scale::new(3), wanted);
     Ok(())
 }
 

@@ -1,6 +1,6 @@
 //! Lines with the faults that a reader of the rules expects, and what requests keep of them.
 use crate::rows::{BAD_LINE, WHOLE, expect};
-use desk_words::{Manual, RecordText, Refusal, Reply, Request, SetText, WordFault};
+use desk_words::{Manual, RecordText, Refusal, Reply, Request, SetText};
 use reg_base::{Cut, List, Mark, Text};
 use reg_io::Line;
 use std::alloc::{AllocError, Global};
@@ -299,21 +299,21 @@ fn is_kept(manual: &Manual) -> bool {
     }
 }
 
-fn keeps(read: &Result<Request, WordFault>) -> bool {
-    match read {
-        Ok(Request::Manual(manual)) => is_kept(manual),
+fn keeps(alloc: Global, line: &[u8]) -> bool {
+    match Request::read_text(alloc, line) {
+        Ok(Request::Manual(manual)) => is_kept(&manual),
         _ => false,
     }
 }
 
 #[test]
 fn a_request_keeps_what_its_line_says(rt: HostRuntime) {
-    assert!(rt; keeps(&Request::read_text(rt.alloc(), MANUAL)));
+    assert!(rt; keeps(rt.alloc(), MANUAL));
 }
 
 /// Whether a line is a balance with this cut.
-fn has_cut(read: &Result<Request, WordFault>, wanted: &Option<Cut>) -> bool {
-    match read {
+fn has_cut(alloc: Global, line: &[u8], wanted: &Option<Cut>) -> bool {
+    match Request::read_text(alloc, line) {
         Ok(Request::Balance(balance)) => balance.cut == *wanted,
         _ => false,
     }
@@ -322,7 +322,7 @@ fn has_cut(read: &Result<Request, WordFault>, wanted: &Option<Cut>) -> bool {
 #[test]
 fn a_cut_is_kept_and_may_be_absent(rt: HostRuntime) {
     let line = b"{\"clerk\":\"anna\",\"op\":\"balance\",\"register\":\"goods\"}";
-    assert!(rt; has_cut(&Request::read_text(rt.alloc(), line), &None));
+    assert!(rt; has_cut(rt.alloc(), line, &None));
     let line = b"{\"clerk\":\"anna\",\"op\":\"balance\",\"register\":\"goods\",\"cut\":\"now\"}";
-    assert!(rt; has_cut(&Request::read_text(rt.alloc(), line), &Some(Cut::Now)));
+    assert!(rt; has_cut(rt.alloc(), line, &Some(Cut::Now)));
 }
