@@ -53,13 +53,18 @@ fn config(alloc: Global, kind: &str, rules: &str) -> Option<Config> {
     Config::read(alloc, file.as_bytes()).ok()
 }
 
-/// What is told of a text; none where memory is wanted.
+/// What is told of the rules of a configuration; none where memory is wanted.
+fn told_of(alloc: Global, config: &Config) -> Option<String> {
+    let Err(fault) = Rules::read(alloc, config) else {
+        return String::from_str(alloc, "accepted").ok();
+    };
+    fault.text(alloc).ok()
+}
+
+/// What is told of a text.
 fn told(alloc: Global, kind: &str, rules: &str) -> Option<String> {
     let config = config(alloc, kind, rules)?;
-    match Rules::read(alloc, &config) {
-        Ok(_) => String::from_str(alloc, "accepted").ok(),
-        Err(fault) => fault.text(alloc).ok(),
-    }
+    told_of(alloc, &config)
 }
 
 /// Asks what is told of each text.
@@ -192,16 +197,22 @@ pub(crate) fn prints(
         && out.as_slice().strip_prefix(b"front ".as_slice()) == Some(wanted.as_bytes())
 }
 
-/// Whether a text of rules is accepted and printed so, with nothing of a second document type.
-fn is_printed(alloc: Global, kind: &str, rules: &str, wanted: &str) -> bool {
-    let Some(config) = config(alloc, kind, rules) else {
-        return false;
-    };
-    match Rules::read(alloc, &config) {
+/// Whether the rules of a configuration are accepted and printed so, with nothing of a second
+/// document type.
+fn prints_alone(alloc: Global, config: &Config, wanted: &str) -> bool {
+    match Rules::read(alloc, config) {
         Ok(rules) => {
-            prints(alloc, &config, &rules, 0, wanted) && prints(alloc, &config, &rules, 1, "")
+            prints(alloc, config, &rules, 0, wanted) && prints(alloc, config, &rules, 1, "")
         }
         Err(_) => false,
+    }
+}
+
+/// Whether a text of rules is accepted and printed so.
+fn is_printed(alloc: Global, kind: &str, rules: &str, wanted: &str) -> bool {
+    match config(alloc, kind, rules) {
+        Some(config) => prints_alone(alloc, &config, wanted),
+        None => false,
     }
 }
 
