@@ -33,6 +33,6 @@ pub(crate) fn expect(
 ) {
     match told {
         Some(told) => assert!(rt; is_framed(told.as_str(), frame, wanted), "{row}: {told}"),
-        None => panic!(rt; "memory was refused"),
+        None => panic!(rt; "nothing was told of {row}"),
     }
 }
