@@ -8,6 +8,6 @@ pub(crate) type Rows = &'static [(&'static str, &'static str)];
 pub(crate) fn expect(rt: &impl Abort, row: &str, told: Option<String>, wanted: &str) {
     match told {
         Some(told) => assert_eq!(rt; told.as_str(), wanted, "{row}"),
-        None => panic!(rt; "memory was refused"),
+        None => panic!(rt; "nothing was told of {row}"),
     }
 }
