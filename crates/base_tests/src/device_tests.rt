@@ -5,9 +5,9 @@ use crate::line_tests::{failing, is_shown, source};
 use crate::rows::expect;
 use reg_base::{List, Text};
 use reg_io::{
-    Device, Disk, Failed, FailingShelf, FailingSink, Folder, Lines, MemoryDisk, MemoryShelf,
-    MemorySink, MemorySource, ReaderSource, Shelf, ShelfFault, Sink, SinkFault, Source, WriterSink,
-    write_all,
+    Device, Disk, Failed, FailingShelf, FailingSink, FailingSource, Folder, Lines, MemoryDisk,
+    MemoryShelf, MemorySink, MemorySource, ReaderSource, Shelf, ShelfFault, Sink, SinkFault,
+    Source, WriterSink, write_all,
 };
 use std::alloc::{AllocError, Global};
 use std::io::{Read, Write};
@@ -201,6 +201,43 @@ fn a_reader_and_a_writer_of_std_count_their_failures(rt: HostRuntime) {
     for row in &WRITES {
         expect(&rt, &"writing", is_taken(&mut writer, row));
     }
+}
+
+// The calls made before, what writing two bytes answers, and how many failures are counted.
+type Ending = (u8, Result<(), SinkFault>, u64);
+
+const ENDINGS: [Ending; 2] = [
+    (0, Err(SinkFault::Failed), 1),
+    (2, Err(SinkFault::TookNothing), 1),
+];
+
+fn is_ended(row: &Ending) -> bool {
+    let mut writer = WriterSink::new(Faulty { calls: row.0 });
+    write_all(&mut writer, b"ab") == row.1 && writer.faults() == row.2
+}
+
+#[test]
+fn a_write_that_took_nothing_is_told_from_one_that_failed(rt: HostRuntime) {
+    for row in &ENDINGS {
+        expect(&rt, &row.0, is_ended(row));
+    }
+}
+
+// Whether the reads of a source fail exactly where its second and fourth calls are listed.
+fn fails_as_listed(source: &mut FailingSource) -> bool {
+    let mut room = [0; 2];
+    [false, true, false, true, false]
+        .iter()
+        .all(|fails| source.read(&mut room).is_err() == *fails)
+}
+
+#[test]
+fn calls_fail_exactly_as_listed(rt: HostRuntime) -> Result<(), Fail> {
+    let failing = failing(rt.alloc(), &[2, 4])?;
+    let mut source = FailingSource::new(source(rt.alloc(), b"abcdef", 2)?, failing);
+    expect(&rt, &"reads", fails_as_listed(&mut source));
+    expect(&rt, &"two faults", source.faults == 2);
+    Ok(())
 }
 
 const FILE: &str = "reg_io_folder_test";

@@ -1,5 +1,5 @@
 -- Charts of accounts: the way to the parents, and the order of codes.
-use Rattle.std.proofs.Common.{◌≡◌, ℕ, suc, ◌+◌, ◌≤◌, Bool, true, false, cond, ◌||◌, List}
+use Rattle.std.proofs.Common.{◌≡◌, ◌≢◌, ℕ, suc, ◌+◌, ◌≤◌, Bool, true, false, cond, ◌||◌, List}
 use Rattle.std.proofs.Common.{[], ◌∷◌, map, length, Option, Some, None, Result, Ok, IfSome, codes}
 use Rattle.std.proofs.Common.{refl, ap, ◌∙◌, sym, subst, arith, Ordering, Less, Equal, Greater}
 use Rattle.std.proofs.Common.{nat_cmp}
@@ -7,7 +7,7 @@ use Rattle.std.specs.Prelude.{is_some}
 use Rattle.std.specs.Cmp.Lexicographic.{slice_cmp}
 use Rattle.std.specs.Ordering.{match_ordering, ordering_reverse}
 use Rattle.std.specs.Str.{bytes_eq}
-use Rattle.std.specs.List.{fold, AllByRecursion}
+use Rattle.std.specs.List.{AllByRecursion}
 use Rattle.std.specs.List.Sorted.{IsStrictlySortedBy}
 use Rattle.std.specs.BTreeMap.{insert_entry}
 use Rattle.std.proofs.lemmas.Cmp.{nat_list_cmp_total}
@@ -19,13 +19,16 @@ use Rattle.cfg_model.specs.declared.fault.CfgFault.{CfgFault}
 use Rattle.cfg_model.specs.declared.fault.CfgFault.TheVariants.{Field, Unknown}
 use Rattle.cfg_model.specs.Words.{key_path}
 use Rattle.cfg_model.specs.Limits.{account_limit, extra_limit}
-use Rattle.cfg_model.specs.Walk.{at_most, of_shape, list_of}
+use Rattle.cfg_model.specs.Walk.{at_most, of_shape, toml_list}
 use Rattle.cfg_model.specs.Places.{account_at}
-use Rattle.cfg_model.specs.Resolving.{AreAscending}
-use Rattle.cfg_model.specs.Accounts.{put_account, by_code, account_of}
+use Rattle.cfg_model.specs.Resolving.{AreAscending, above}
+use Rattle.cfg_model.specs.Accounts.{put_account, by_code, toml_account}
 use Rattle.cfg_model.specs.Accounts.{each_checked, few_extras, each_once, parent_known}
-use Rattle.cfg_model.specs.Accounts.{has_known_parent, not_circular, has_parents_off, read_accounts}
+use Rattle.cfg_model.specs.Accounts.{has_known_parent, not_circular, read_accounts}
+use Rattle.cfg_model.specs.Accounts.{check_accounts, check_parents}
 use Rattle.cfg_model.specs.AccountMaps.{Keyed, AreKeyed, values_of}
+use Rattle.cfg_model.proofs.CircleLemmas.{has_no_circle, ways-end_sorted}
+use Rattle.cfg_model.proofs.SortedAccounts.{put_all}
 use Rattle.cfg_model.proofs.Steps.{bind-Ok, same_Ok, unless-Ok}
 use Rattle.cfg_model.proofs.ListLemmas.{at_most-Ok}
 use Rattle.cfg_model.proofs.Walks.{none-ascend}
@@ -62,12 +65,12 @@ AreKeyed-entry a (e ∷ es) h = at (AreKeyed-entry a es h.1) (slice_cmp nat_cmp 
         → AreKeyed (match_ordering order ((a.code, a) ∷ e ∷ es) ((e.0, a) ∷ es)
         (e ∷ insert_entry (slice_cmp nat_cmp) es a.code a))
     at ih Less same = (refl, h)
-    at ih Equal same = (exact_bytes e.0 a.code (nat_list_cmp_total.antisymm e.0 a.code ∙ ap ordering_reverse same), h.1)
+    at ih Equal same = (
+      exact_bytes e.0 a.code (nat_list_cmp_total.antisymm e.0 a.code
+          ∙ ap ordering_reverse same),
+      h.1,
+    )
     at ih Greater same = (h.0, ih)
-
--- what is put among accounts at their places
-abbrev put_all : List Account → List Account → List Account
-put_all sorted accounts = fold (λ sorted a. put_account a sorted) sorted accounts
 
 put_account-all : (P : Account → Type 0) (a : Account) (xs : List Account)
     → P a → AllByRecursion P xs → AllByRecursion P (put_account a xs)
@@ -82,7 +85,8 @@ put_account-all P a (b ∷ xs) h all =
     at ih Greater = (all.0, ih)
 
 put_all-all : (P : Account → Type 0) (sorted accounts : List Account)
-    → AllByRecursion P sorted → AllByRecursion P accounts → AllByRecursion P (put_all sorted accounts)
+    → AllByRecursion P sorted → AllByRecursion P accounts
+    → AllByRecursion P (put_all sorted accounts)
 put_all-all P sorted [] all more = all
 put_all-all P sorted (a ∷ accounts) all more =
     put_all-all P (put_account a sorted) accounts (put_account-all P a sorted more.0 all) more.1
@@ -92,7 +96,8 @@ put_account-length a [] = omega arith
 put_account-length a (b ∷ xs) = at (put_account-length a xs) (slice_cmp nat_cmp a.code b.code)
   where
     at : length (put_account a xs) ≤ length xs + 1 → (order : Ordering)
-        → length (match_ordering order (a ∷ b ∷ xs) (a ∷ xs) (b ∷ put_account a xs)) ≤ suc (length xs) + 1
+        → length (match_ordering order (a ∷ b ∷ xs) (a ∷ xs) (b ∷ put_account a xs)) ≤ suc
+        (length xs) + 1
     at ih Less = omega arith
     at ih Equal = omega arith
     at ih Greater = omega (arith, ih)
@@ -147,7 +152,8 @@ put_account-ascends a (b ∷ xs) h =
   where
     at : AreAscending (codes_of (put_account a xs)) → (order : Ordering)
         → slice_cmp nat_cmp a.code b.code ≡ order
-        → AreAscending (codes_of (match_ordering order (a ∷ b ∷ xs) (a ∷ xs) (b ∷ put_account a xs)))
+        → AreAscending (codes_of (match_ordering order (a ∷ b ∷ xs) (a ∷ xs)
+        (b ∷ put_account a xs)))
     at ih Less p = ((p, below-trans a.code b.code (codes_of xs) p h.0), h)
     at ih Equal p = (below-same a.code b.code (codes_of xs) p h.0, h.1)
     at ih Greater p = (
@@ -166,7 +172,8 @@ or-twice : (p q : Bool) → (p || (p || q)) ≡ true → (p || q) ≡ true
 or-twice true q h = refl
 or-twice false q h = h
 
-or-middle : (p q r s : Bool) → ((p || r) ≡ true → s ≡ true) → (p || (q || r)) ≡ true → (q || s) ≡ true
+or-middle : (p q r s : Bool) → ((p || r) ≡ true → s ≡ true) → (p || (q || r)) ≡ true
+    → (q || s) ≡ true
 or-middle p true r s next h = refl
 or-middle p false r s next h = next h
 
@@ -186,7 +193,8 @@ has_code-cons : (code : List ℕ) (a : Account) (xs : List Account)
 unfolding account_at
 has_code-cons code a xs = at (bytes_eq a.code code)
   where
-    at : (test : Bool) → is_some (cond test (Some a) (account_at code xs)) ≡ test || is_some (account_at code xs)
+    at : (test : Bool) → is_some (cond test (Some a) (account_at code xs))
+        ≡ test || is_some (account_at code xs)
     at true = refl
     at false = refl
 
@@ -207,16 +215,20 @@ put_account-has code a (b ∷ xs) h =
 
     same : slice_cmp nat_cmp a.code b.code ≡ Equal
         → (bytes_eq a.code code || (bytes_eq a.code code || has_code code xs)) ≡ true
-    same p = ap (λ (k : List ℕ). bytes_eq a.code code || (bytes_eq k code || has_code code xs)) (exact_bytes a.code b.code p) ∙ parts
+    same p = ap (λ (k : List ℕ). bytes_eq a.code code || (bytes_eq k code || has_code code xs))
+        (exact_bytes a.code b.code p) ∙ parts
 
-    at : ((bytes_eq a.code code || has_code code xs) ≡ true → has_code code (put_account a xs) ≡ true)
+    at : ((bytes_eq a.code code || has_code code xs) ≡ true
+        → has_code code (put_account a xs) ≡ true)
         → (order : Ordering) → slice_cmp nat_cmp a.code b.code ≡ order
         → has_code code (match_ordering order (a ∷ b ∷ xs) (a ∷ xs) (b ∷ put_account a xs)) ≡ true
     at ih Less p = has_code-cons code a (b ∷ xs) ∙ h
-    at ih Equal p = has_code-cons code a xs ∙ or-twice (bytes_eq a.code code) (has_code code xs) (same p)
+    at ih Equal p = has_code-cons code a xs
+        ∙ or-twice (bytes_eq a.code code) (has_code code xs) (same p)
     at ih Greater p =
         has_code-cons code b (put_account a xs)
-        ∙ or-middle (bytes_eq a.code code) (bytes_eq b.code code) (has_code code xs) (has_code code (put_account a xs)) ih parts
+        ∙ or-middle (bytes_eq a.code code) (bytes_eq b.code code) (has_code code xs)
+        (has_code code (put_account a xs)) ih parts
 
 put_all-has : (code : List ℕ) (sorted accounts : List Account)
     → (has_code code sorted || has_code code accounts) ≡ true
@@ -224,14 +236,16 @@ put_all-has : (code : List ℕ) (sorted accounts : List Account)
 put_all-has code sorted [] h = has_code-none code (has_code code sorted) h
 put_all-has code sorted (a ∷ accounts) h =
     put_all-has code (put_account a sorted) accounts
-    (or-step (has_code code sorted) (bytes_eq a.code code) (has_code code accounts) (has_code code (put_account a sorted))
+    (or-step (has_code code sorted) (bytes_eq a.code code) (has_code code accounts)
+    (has_code code (put_account a sorted))
     (put_account-has code a sorted)
     (ap (λ t. has_code code sorted || t) (sym (has_code-cons code a accounts)) ∙ h))
 
 -- where all accounts pass a check, what it says holds of each
 pub each_checked-all : (check : Account → Result (Unit {0}) CfgFault) (P : Account → Type 0)
     → ((a : Account) (u : Unit {0}) → check a ≡ Ok u → P a)
-    → (accounts : List Account) (u : Unit {0}) → each_checked check accounts ≡ Ok u → AllByRecursion P accounts
+    → (accounts : List Account) (u : Unit {0}) → each_checked check accounts ≡ Ok u
+    → AllByRecursion P accounts
 unfolding each_checked
 each_checked-all check P each [] u e = tt
 each_checked-all check P each (a ∷ accounts) u e =
@@ -272,7 +286,10 @@ pub record AreAccounts (accounts : List Account) : Type 0 where
   pub few : length accounts ≤ account_limit
   pub few_extras : AllByRecursion (λ a. length a.extras ≤ extra_limit) accounts
   pub ascend : AreAscending (map (λ (a : Account). a.code) accounts)
-  pub parents : AllByRecursion (λ a. IfSome a.parent (λ p. is_some (account_at p accounts) ≡ true)) accounts
+  pub parents : AllByRecursion (λ a. IfSome a.parent (λ p. is_some (account_at p accounts) ≡ true))
+      accounts
+  pub apart : (steps : ℕ) (code : List ℕ) → above (suc steps) accounts code ≢ Some code
+  pub ends : (code : List ℕ) → above (suc (length accounts)) accounts code ≡ None
 
 few_extras-Ok : (path : List ℕ) (a : Account) (u : Unit {0})
     → few_extras path a ≡ Ok u → length a.extras ≤ extra_limit
@@ -280,25 +297,31 @@ few_extras-Ok path a u e = at_most-Ok extra_limit path (length a.extras) u e
 
 pub read_accounts-hold : (name : List ℕ) (keys : Members) (accounts : List Account)
     → read_accounts name keys ≡ Ok accounts → AreAccounts accounts
-unfolding read_accounts HasParentAmong
+unfolding read_accounts check_accounts check_parents HasParentAmong
 read_accounts-hold name keys accounts e =
     let path = key_path (codes "ledger") name (codes "accounts") in
-    let held = of_shape (list_of account_of) (codes "accounts") keys in
+    let held = of_shape (toml_list toml_account) (codes "accounts") keys in
     let (found, shape, a) = bind-Ok (some_or held (Field path)) _ accounts e in
     let (u, few, b) = bind-Ok (at_most account_limit path (length found)) _ accounts a in
-    let (v, few_each, c) = bind-Ok (each_checked (few_extras path) found) _ accounts b in
-    let (w, once, d) = bind-Ok (each_once [] found) _ accounts c in
-    let (x, known, f) = bind-Ok (each_checked (has_known_parent found) found) _ accounts d in
-    let (y, straight, g) = bind-Ok (each_checked (not_circular found) found) _ accounts f in
-    let (z, agree, made) = bind-Ok (each_checked (has_parents_off path found) found) _ accounts g in
+    let (z, checked, made) = bind-Ok (check_accounts path found) _ accounts b in
+    let (v, few_each, c) = bind-Ok (each_checked (few_extras path) found) _ z checked in
+    let (w, once, d) = bind-Ok (each_once [] found) _ z c in
+    let (x, known, f) = bind-Ok (each_checked (has_known_parent found) found) _ z d in
+    let (y, straight, g) = bind-Ok (each_checked (not_circular found) found) _ z f in
     let number = at_most-Ok account_limit path (length found) u few in
     let long = put_all-length [] found in
-    let extras = each_checked-all (few_extras path) (λ a. length a.extras ≤ extra_limit) (few_extras-Ok path) found v few_each in
-    let among = each_checked-all (has_known_parent found) (HasParentAmong found) (parent-among found) found x known in
-    let sorted = all-map (HasParentAmong found) (HasParentAmong (by_code found)) (parent-sorted found) found among in
+    let extras = each_checked-all (few_extras path) (λ a. length a.extras ≤ extra_limit)
+    (few_extras-Ok path) found v few_each in
+    let among = each_checked-all (has_known_parent found) (HasParentAmong found)
+    (parent-among found) found x known in
+    let sorted = all-map (HasParentAmong found) (HasParentAmong (by_code found))
+    (parent-sorted found) found among in
+    let short : length (by_code found) ≤ length found = omega (arith, long) in
     subst AreAccounts (same_Ok _ _ made) (record {
       few = omega (arith, number, long);
       few_extras = put_all-all (λ a. length a.extras ≤ extra_limit) [] found tt extras;
       ascend = put_all-ascends [] found none-ascend;
       parents = put_all-all (HasParentAmong (by_code found)) [] found tt sorted;
+      apart = has_no_circle found w y once straight short;
+      ends = ways-end_sorted found w y once straight short;
     })

@@ -15,7 +15,7 @@ use Rattle.cfg_model.specs.Limits.{clerk_limit, IsWithinLimits, IsRegisterWithin
 use Rattle.cfg_model.specs.Limits.{IsChartWithinLimits, IsKindWithinLimits}
 use Rattle.cfg_model.specs.Walk.{entry_keys, known_keys, read_group}
 use Rattle.cfg_model.specs.Resolving.{HasNamesInOrder, IsInOrder, HasAccountsInOrder, HasParents}
-use Rattle.cfg_model.specs.Resolving.{HasNames, NamesResolve}
+use Rattle.cfg_model.specs.Resolving.{HasNames, HasNoCircle, NamesResolve}
 use Rattle.cfg_model.specs.Registers.{read_register, read_split}
 use Rattle.cfg_model.specs.Accounts.{read_accounts}
 use Rattle.cfg_model.specs.Ledgers.{read_ledger, read_scale}
@@ -35,6 +35,7 @@ record IsLedger (chart : Chart) : Type 0 where
   within : IsChartWithinLimits chart
   in_order : HasAccountsInOrder chart
   resolves : HasParents chart
+  circles : HasNoCircle chart
 
 read_ledger-holds : (registers : List Register) (name : List ℕ) (d : Data) (chart : Chart)
     → read_ledger registers name d ≡ Ok chart → IsLedger chart
@@ -54,6 +55,7 @@ read_ledger-holds registers name d chart e =
       };
       in_order = hold.ascend;
       resolves = All-from_recursion _ accounts hold.parents;
+      circles = record { apart = hold.apart; ends = hold.ends };
     })
 
 all-part : {X : Type 0} (P Q : X → Type 0) → ((x : X) → P x → Q x)
@@ -71,31 +73,48 @@ pub config_of-holds : (top : Members) (config : Config) → config_of top ≡ Ok
 unfolding config_of
 config_of-holds top config e =
     let (keys, known, a) = bind-Ok (known_keys group_keys top) _ config e in
-    let (rs, are_registers, b) = bind-Ok (read_group (codes "register") register_limit read_register keys) _ config a in
-    let (ls, are_ledgers, c) = bind-Ok (read_group (codes "ledger") ledger_limit (read_ledger rs) keys) _ config b in
-    let (ks, are_kinds, d) = bind-Ok (read_group (codes "document") document_limit read_kind keys) _ config c in
-    let (ss, are_sequences, f) = bind-Ok (read_group (codes "sequence") sequence_limit (read_sequence rs ks) keys) _ config d in
-    let (cs, are_clerks, made) = bind-Ok (read_group (codes "clerk") clerk_limit read_clerk keys) _ config f in
-    let registers = read_group-all (codes "register") register_limit read_register IsRegisterWithinLimits read_register-within keys rs are_registers in
-    let ledgers = read_group-all (codes "ledger") ledger_limit (read_ledger rs) IsLedger (read_ledger-holds rs) keys ls are_ledgers in
-    let kinds = read_group-all (codes "document") document_limit read_kind IsKindWithinLimits read_kind-within keys ks are_kinds in
-    let sequences = read_group-all (codes "sequence") sequence_limit (read_sequence rs ks) (HasNames rs ks) (read_sequence-names rs ks) keys ss are_sequences in
+    let (rs, are_registers, b) =
+    bind-Ok (read_group (codes "register") register_limit read_register keys) _ config a in
+    let (ls, are_ledgers, c) =
+    bind-Ok (read_group (codes "ledger") ledger_limit (read_ledger rs) keys) _ config b in
+    let (ks, are_kinds, d) = bind-Ok (read_group (codes "document") document_limit read_kind keys) _
+    config c in
+    let (ss, are_sequences, f) =
+    bind-Ok (read_group (codes "sequence") sequence_limit (read_sequence rs ks) keys) _ config d
+    in
+    let (cs, are_clerks, made) =
+    bind-Ok (read_group (codes "clerk") clerk_limit read_clerk keys) _ config f in
+    let registers = read_group-all (codes "register") register_limit read_register
+    IsRegisterWithinLimits read_register-within keys rs are_registers in
+    let ledgers = read_group-all (codes "ledger") ledger_limit (read_ledger rs) IsLedger
+    (read_ledger-holds rs) keys ls are_ledgers in
+    let kinds = read_group-all (codes "document") document_limit read_kind IsKindWithinLimits
+    read_kind-within keys ks are_kinds in
+    let sequences = read_group-all (codes "sequence") sequence_limit (read_sequence rs ks)
+    (HasNames rs ks) (read_sequence-names rs ks) keys ss are_sequences in
     subst Holds
     {x = record { registers = rs; ledgers = ls; kinds = ks; sequences = ss; clerks = cs }}
     (same_Ok _ _ made) (record {
       within = record {
-        few_registers = read_group-few (codes "register") register_limit read_register keys rs are_registers;
-        few_ledgers = read_group-few (codes "ledger") ledger_limit (read_ledger rs) keys ls are_ledgers;
+        few_registers = read_group-few (codes "register") register_limit read_register keys rs
+            are_registers;
+        few_ledgers = read_group-few (codes "ledger") ledger_limit (read_ledger rs) keys ls
+            are_ledgers;
         few_kinds = read_group-few (codes "document") document_limit read_kind keys ks are_kinds;
-        few_sequences = read_group-few (codes "sequence") sequence_limit (read_sequence rs ks) keys ss are_sequences;
+        few_sequences = read_group-few (codes "sequence") sequence_limit (read_sequence rs ks) keys
+            ss are_sequences;
         few_clerks = read_group-few (codes "clerk") clerk_limit read_clerk keys cs are_clerks;
         each_register = All-from_recursion _ rs registers;
-        each_ledger = All-from_recursion _ ls (all-part IsLedger IsChartWithinLimits (λ x h. h.within) ls ledgers);
+        each_ledger = All-from_recursion _ ls
+            (all-part IsLedger IsChartWithinLimits (λ x h. h.within) ls ledgers);
         each_kind = All-from_recursion _ ks kinds;
       };
       accounts = all-part IsLedger HasAccountsInOrder (λ x h. h.in_order) ls ledgers;
       resolves = record {
-        parents = All-from_recursion _ ls (all-part IsLedger HasParents (λ x h. h.resolves) ls ledgers);
+        parents = All-from_recursion _ ls
+            (all-part IsLedger HasParents (λ x h. h.resolves) ls ledgers);
+        circles = All-from_recursion _ ls
+            (all-part IsLedger HasNoCircle (λ x h. h.circles) ls ledgers);
         sequences = All-from_recursion _ ss sequences;
       };
     })

@@ -1,10 +1,14 @@
+pub mod ForAbove
 pub mod Steps
 pub mod Walks
 pub mod ListLemmas
 pub mod RegisterLemmas
 pub mod SequenceLemmas
 pub mod ChartLemmas
+pub mod SortedAccounts
+pub mod CircleLemmas
 pub mod PlaceLemmas
-pub mod AccountSteps
+pub mod TomlOrder
+pub mod TomlValues
 pub mod ConfigLemmas
 mod WorkedRows

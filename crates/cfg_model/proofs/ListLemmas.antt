@@ -11,7 +11,7 @@ use Rattle.reg_base.specs.Results.{◌>>=◌, unless, some_or}
 use Rattle.cfg_model.specs.declared.fault.CfgFault.{CfgFault}
 use Rattle.cfg_model.specs.declared.fault.CfgFault.TheVariants.{Field, Count, Unknown}
 use Rattle.cfg_model.specs.Walk.{member_count, at_most, distinct, each_entry, group_entries}
-use Rattle.cfg_model.specs.Walk.{read_group, of_shape, each_item, text_of, text_list, all_known}
+use Rattle.cfg_model.specs.Walk.{read_group, of_shape, toml_each, toml_text, toml_texts, all_known}
 use Rattle.cfg_model.proofs.Steps.{bind-Ok, same_Ok, unless-Ok, and_then-Some, map-Some}
 
 -- a list in which none stands twice is the list
@@ -27,27 +27,29 @@ at_most-Ok limit path number u e =
     grind (arith, nat_tests)
 
 -- what holds of each item that has its shape holds of a list of them
-pub each_item-all : {X : Type 0} (shape : Data → Option X) (P : X → Type 0)
+pub toml_each-all : {X : Type 0} (shape : Data → Option X) (P : X → Type 0)
     → ((d : Data) (x : X) → shape d ≡ Some x → P x)
-    → (items : Items) (xs : List X) → each_item shape items ≡ Some xs → AllByRecursion P xs
-each_item-all shape P each no_items xs e = subst (AllByRecursion P) (same_Some _ _ e) tt
-each_item-all shape P each (item d ds) xs e =
+    → (items : Items) (xs : List X) → toml_each shape items ≡ Some xs → AllByRecursion P xs
+toml_each-all shape P each no_items xs e = subst (AllByRecursion P) (same_Some _ _ e) tt
+toml_each-all shape P each (item d ds) xs e =
     let (x, is_first, more) = and_then-Some _ (shape d) xs e in
-    let (rest, are_rest, value) = map-Some _ (each_item shape ds) xs more in
-    subst (AllByRecursion P) value (each d x is_first, each_item-all shape P each ds rest are_rest)
+    let (rest, are_rest, value) = map-Some _ (toml_each shape ds) xs more in
+    subst (AllByRecursion P) value (each d x is_first, toml_each-all shape P each ds rest are_rest)
 
 -- what holds of each text that spells something holds of a list of texts under a key
-pub text_list-all : {X : Type 0} (reads : List ℕ → Option X) (P : X → Type 0)
+pub toml_texts-all : {X : Type 0} (reads : List ℕ → Option X) (P : X → Type 0)
     → ((text : List ℕ) (x : X) → reads text ≡ Some x → P x)
     → (key : List ℕ) (keys : Members) (xs : List X)
-    → of_shape (text_list reads) key keys ≡ Some xs → AllByRecursion P xs
-text_list-all reads P each key keys xs e =
-    let (d, held, read) = and_then-Some (text_list reads) (get_member key keys) xs e in
-    let (items, is_array, are_spelled) = and_then-Some (each_item (text_of reads)) (as_array d) xs read in
-    each_item-all (text_of reads) P spelled items xs are_spelled
+    → of_shape (toml_texts reads) key keys ≡ Some xs → AllByRecursion P xs
+toml_texts-all reads P each key keys xs e =
+    let (d, held, read) = and_then-Some (toml_texts reads) (get_member key keys) xs e in
+    let (items, is_array, are_spelled) =
+    and_then-Some (toml_each (toml_text reads)) (as_array d) xs read in
+    toml_each-all (toml_text reads) P spelled items xs are_spelled
   where
-    spelled : (d : Data) (x : _) → text_of reads d ≡ Some x → P x
-    spelled d x e = let (text, is_text, is_read) = and_then-Some reads (as_str d) x e in each text x is_read
+    spelled : (d : Data) (x : _) → toml_text reads d ≡ Some x → P x
+    spelled d x e = let (text, is_text, is_read) = and_then-Some reads (as_str d) x e in
+        each text x is_read
 
 -- what holds of each entry that is read holds of the list of a group
 pub each_entry-all : {X : Type 0} (read : List ℕ → Data → Result X CfgFault) (P : X → Type 0)

@@ -1,7 +1,7 @@
 -- The places of accounts by their codes.
-use Rattle.std.proofs.Common.{◌≡◌, ℕ, zero, suc, ◌+◌, ◌-◌, ◌<◌, ◌≤◌, nat_lt, IfSome, Bool, true}
+use Rattle.std.proofs.Common.{◌≡◌, ℕ, suc, ◌+◌, ◌-◌, ◌<◌, ◌≤◌, nat_lt, IfSome, Bool, true}
 use Rattle.std.proofs.Common.{false, cond, ◌||◌, not, List, [], ◌∷◌, ◌++◌, map, length, take, drop}
-use Rattle.std.proofs.Common.{get_or, Option, Some, None, option_map, option_and_then, Result, Ok}
+use Rattle.std.proofs.Common.{get_or, Option, Some, None, option_map, option_and_then, Result}
 use Rattle.std.proofs.Common.{Err, refl, ap, ◌∙◌, sym, subst, arith}
 use Rattle.std.specs.Prelude.{is_some, slice_get}
 use Rattle.std.specs.Borrow.{Bor}
@@ -9,8 +9,7 @@ use Rattle.std.specs.Option.{option_or}
 use Rattle.std.specs.Str.{bytes_eq}
 use Rattle.std.proofs.lemmas.List.{at_drop_more, take_more, length-take, map-append}
 use Rattle.std.proofs.lemmas.Bool.Decides.{nat_tests}
-use Rattle.std.proofs.lemmas.Option.{slice_get_past, slice_get_read, slice_get-map, same_Some}
-use Rattle.std.specs.List.{AllByRecursion}
+use Rattle.std.proofs.lemmas.Option.{slice_get_past, slice_get_read}
 use Rattle.std.proofs.lemmas.Slice.Eq.{bytes_eq-Decides}
 use Rattle.reg_base.specs.Results.{◌>>=◌, unless}
 use Rattle.cfg_model.specs.declared.account.Account.{Account}
@@ -18,11 +17,9 @@ use Rattle.cfg_model.specs.declared.fault.CfgFault.{CfgFault}
 use Rattle.cfg_model.specs.declared.fault.CfgFault.TheVariants.{Twice}
 use Rattle.cfg_model.specs.Words.{is_one_of}
 use Rattle.cfg_model.specs.Walk.{distinct}
-use Rattle.cfg_model.specs.Accounts.{each_once, each_checked, has_known_parent, leads_to}
-use Rattle.cfg_model.proofs.ChartLemmas.{HasParentAmong, each_checked-all, parent-among}
+use Rattle.cfg_model.specs.Accounts.{each_once, leads_to, parent_of}
 use Rattle.cfg_model.specs.Places.{account_at}
-use Rattle.cfg_model.specs.AccountMaps.{Placed, place_at, first_place, LeadsToPlaces, parent_place}
-use Rattle.cfg_model.specs.AccountMaps.{has_this_code, comes_to}
+use Rattle.cfg_model.specs.AccountMaps.{Placed, place_at, first_place, LeadsToPlaces}
 
 -- the account at the place of a code is the first one of that code
 pub account_at-place : (code : List ℕ) (xs : List Account)
@@ -197,110 +194,12 @@ LeadsToPlaces-next old new xs i a more is leads free updates =
     (λ code. updates code
     ∙ ap (λ n. cond (bytes_eq a.code code) (Some n) (place_at code old)) long))
 
--- a place whose account is another one leads to the code where the parent's place does
-pub comes_to-next : (n counter : ℕ) (accounts : List Account) (code : List ℕ) (place : ℕ)
-    → counter < n → has_this_code code (slice_get accounts place) ≡ false
-    → comes_to (n - counter) accounts code (Some place)
-    ≡ comes_to (n - (counter + 1)) accounts code
-    (option_and_then (parent_place accounts) (slice_get accounts place))
-unfolding comes_to
-comes_to-next n counter accounts code place more other =
+-- a parent that is another one leads to the code where its own parent does
+pub leads_to-next : (n counter : ℕ) (accounts : List Account) (code p : List ℕ)
+    → counter < n → bytes_eq p code ≡ false
+    → leads_to (n - counter) accounts code (Some p)
+    ≡ leads_to (n - (counter + 1)) accounts code (parent_of accounts p)
+unfolding leads_to
+leads_to-next n counter accounts code p more other =
     let left : n - counter ≡ suc (n - (counter + 1)) = omega (arith, more) in
     rw left (rw other refl)
-
--- what stands at a place in the list of the parents' places
-pub parent-at : (accounts : List Account) (place : ℕ)
-    → option_and_then (λ parent. parent) (slice_get (map (parent_place accounts) accounts) place)
-    ≡ option_and_then (parent_place accounts) (slice_get accounts place)
-parent-at accounts place =
-    ap (option_and_then (λ parent. parent)) (slice_get-map (parent_place accounts) accounts place)
-    ∙ inside (slice_get accounts place)
-  where
-    inside : (found : Option Account)
-        → option_and_then (λ parent. parent) (option_map (parent_place accounts) found)
-        ≡ option_and_then (parent_place accounts) found
-    inside None = refl
-    inside (Some a) = refl
-
--- what holds of all holds of the one at a place
-slice_get-all : (P : Account → Type 0) (xs : List Account) (i : ℕ) (x : Account)
-    → AllByRecursion P xs → slice_get xs i ≡ Some x → P x
-slice_get-all P [] i x all e = absurd (cc)
-slice_get-all P (y ∷ xs) zero x all e = subst P (same_Some _ _ e) all.0
-slice_get-all P (y ∷ xs) (suc i) x all e = slice_get-all P xs i x all.1 e
-
--- the account of a code has this code
-account_at-code : (code : List ℕ) (xs : List Account) (x : Account)
-    → account_at code xs ≡ Some x → bytes_eq x.code code ≡ true
-unfolding account_at
-account_at-code code [] x e = absurd (cc)
-account_at-code code (a ∷ xs) x e = at (account_at-code code xs x) (bytes_eq a.code code) refl e
-  where
-    at : (account_at code xs ≡ Some x → bytes_eq x.code code ≡ true)
-        → (test : Bool) → bytes_eq a.code code ≡ test
-        → cond test (Some a) (account_at code xs) ≡ Some x → bytes_eq x.code code ≡ true
-    at ih true same e = ap (λ (b : Account). bytes_eq b.code code) (sym (same_Some _ _ e)) ∙ same
-    at ih false same e = ih e
-
-module _ (accounts : List Account) (known : AllByRecursion (HasParentAmong accounts) accounts)
-    (code : List ℕ) where
-  -- the way by places is the way by codes
-  pub comes_to-leads_to : (n : ℕ) (parent : Option (List ℕ))
-      → IfSome parent (λ p. is_some (account_at p accounts) ≡ true)
-      → comes_to n accounts code (option_and_then (λ c. first_place c accounts) parent)
-      ≡ leads_to n accounts code parent
-  unfolding comes_to leads_to HasParentAmong
-  comes_to-leads_to zero parent there = refl
-  comes_to-leads_to (suc n) None there = refl
-  comes_to-leads_to (suc n) (Some p) there =
-      at (first_place p accounts) (account_at p accounts) refl there
-      (account_at-place p accounts)
-      (λ (a : Account) (is : IfSome a.parent (λ q. is_some (account_at q accounts) ≡ true)).
-      comes_to-leads_to n a.parent is)
-    where
-      at : (place : Option ℕ) (found : Option Account) → account_at p accounts ≡ found
-          → is_some found ≡ true
-          → option_and_then (λ i. slice_get accounts i) place ≡ found
-          → ((a : Account) → IfSome a.parent (λ q. is_some (account_at q accounts) ≡ true)
-          → comes_to n accounts code (parent_place accounts a)
-          ≡ leads_to n accounts code a.parent)
-          → comes_to (suc n) accounts code place
-          ≡ cond (bytes_eq p code) true
-          (leads_to n accounts code (option_and_then (λ (a : Account). a.parent) found))
-      at None (Some b) is there same ih = absurd (cc)
-      at place None is there same ih = absurd (cc)
-      at (Some i) (Some b) is there same ih =
-          let own : b.code ≡ p = (bytes_eq-Decides b.code p).0 (account_at-code p accounts b is) in
-          let parents = slice_get-all (HasParentAmong accounts) accounts i b known same in
-          ap (λ found. cond (has_this_code code found) true
-          (comes_to n accounts code (option_and_then (parent_place accounts) found))) same
-          ∙ ap (λ (c : List ℕ). cond (bytes_eq c code) true
-          (comes_to n accounts code (parent_place accounts b))) own
-          ∙ ap (λ rest. cond (bytes_eq p code) true rest) (ih b parents)
-
--- the parent at a place leads back where that of the account does
-pub comes_to-at : (accounts : List Account) (i : ℕ) (a : Account)
-    → each_checked (has_known_parent accounts) accounts ≡ Ok tt
-    → i < length accounts → a ≡ get_or accounts i a
-    → comes_to (length accounts) accounts a.code
-    (option_and_then (λ parent. parent) (slice_get (map (parent_place accounts) accounts) i))
-    ≡ leads_to (length accounts) accounts a.code a.parent
-unfolding HasParentAmong
-comes_to-at accounts i a e more is =
-    let known = each_checked-all (has_known_parent accounts) (HasParentAmong accounts)
-    (parent-among accounts) accounts tt e in
-    let read = slice_get_read accounts (length accounts) i a refl more is in
-    ap (comes_to (length accounts) accounts a.code)
-    (parent-at accounts i ∙ ap (option_and_then (parent_place accounts)) read)
-    ∙ comes_to-leads_to accounts known a.code (length accounts) a.parent
-    (slice_get-all (HasParentAmong accounts) accounts i a known read)
-
--- the checks from a place on are that of the account there, and those behind it
-pub each_checked-at : (check : Account → Result (Unit {0}) CfgFault)
-    → (xs : List Account) (i : ℕ) (a : Account) → i < length xs → a ≡ get_or xs i a
-    → each_checked check (drop i xs)
-    ≡ (check a >>= (λ _. each_checked check (drop (i + 1) xs)))
-unfolding each_checked
-each_checked-at check xs i a more is =
-    at_drop_more (each_checked check) xs i a more
-    ∙ ap (λ b. each_checked check (b ∷ drop (i + 1) xs)) (sym is)

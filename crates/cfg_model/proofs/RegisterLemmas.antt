@@ -16,19 +16,19 @@ use Rattle.cfg_model.specs.declared.register.Resource.{Resource}
 use Rattle.cfg_model.specs.declared.kind.Kind.{Kind}
 use Rattle.cfg_model.specs.declared.kind.Field.{Field as DocumentField}
 use Rattle.cfg_model.specs.declared.fault.CfgFault.TheVariants.{Field}
-use Rattle.cfg_model.specs.Elements.{at_colon, name_of, scale_of, resource_of, dimension_of}
-use Rattle.cfg_model.specs.Elements.{field_of, field_scale_of}
+use Rattle.cfg_model.specs.Elements.{at_colon, toml_name, toml_scale, toml_resource, toml_dimension}
+use Rattle.cfg_model.specs.Elements.{toml_field, toml_field_scale}
 use Rattle.cfg_model.specs.Limits.{dimension_limit, resource_limit, field_limit, scale_limit}
 use Rattle.cfg_model.specs.Limits.{IsRegisterWithinLimits, IsKindWithinLimits}
 use Rattle.cfg_model.specs.Words.{key_path, register_keys, document_keys}
-use Rattle.cfg_model.specs.Walk.{at_most, entry_keys, of_shape, text_list}
+use Rattle.cfg_model.specs.Walk.{at_most, entry_keys, of_shape, toml_texts}
 use Rattle.cfg_model.specs.Registers.{read_register, read_balance, read_dimensions, read_resources}
 use Rattle.cfg_model.specs.Registers.{read_split}
 use Rattle.cfg_model.specs.Kinds.{read_kind, read_fields}
 use Rattle.cfg_model.specs.Ledgers.{read_scale, scale_number}
 use Rattle.cfg_model.proofs.Steps.{bind-Ok, same_Ok, unless-Ok, some_or-Ok, and_then-Some, map-Some}
 use Rattle.cfg_model.proofs.Steps.{cond-Some}
-use Rattle.cfg_model.proofs.ListLemmas.{at_most-Ok, distinct-Ok, text_list-all}
+use Rattle.cfg_model.proofs.ListLemmas.{at_most-Ok, distinct-Ok, toml_texts-all}
 
 digit-small : (digit scale : ℕ)
     → (nat_le 48 digit && nat_le digit 54) ≡ true → digit - 48 ≡ scale → scale ≤ scale_limit
@@ -37,49 +37,51 @@ digit-small digit scale test e =
     grind (arith, nat_tests)
 
 -- a digit that spells a scale spells a small one
-scale_of-small : (text : List ℕ) (scale : ℕ) → scale_of text ≡ Some scale → scale ≤ scale_limit
-unfolding scale_of
-scale_of-small [] scale e = absurd (cc)
-scale_of-small (digit ∷ []) scale e =
+toml_scale-small : (text : List ℕ) (scale : ℕ) → toml_scale text ≡ Some scale → scale ≤ scale_limit
+unfolding toml_scale
+toml_scale-small [] scale e = absurd (cc)
+toml_scale-small (digit ∷ []) scale e =
     let (test, value) = cond-Some _ (digit - 48) scale e in digit-small digit scale test value
-scale_of-small (digit ∷ next ∷ more) scale e = absurd (cc)
+toml_scale-small (digit ∷ next ∷ more) scale e = absurd (cc)
 
 -- a resource that is spelled has a small scale
-resource_of-small : (text : List ℕ) (r : Resource)
-    → resource_of text ≡ Some r → r.scale ≤ scale_limit
-unfolding resource_of
-resource_of-small text r e =
+toml_resource-small : (text : List ℕ) (r : Resource)
+    → toml_resource text ≡ Some r → r.scale ≤ scale_limit
+unfolding toml_resource
+toml_resource-small text r e =
     let (parts, split, named) = and_then-Some _ (at_colon text) r e in
-    let (name, is_named, scaled) = and_then-Some _ (name_of parts.0) r named in
-    let (scale, is_scale, value) = map-Some _ (scale_of parts.1) r scaled in
-    let small : scale ≤ scale_limit = scale_of-small parts.1 scale is_scale in
+    let (name, is_named, scaled) = and_then-Some _ (toml_name parts.0) r named in
+    let (scale, is_scale, value) = map-Some _ (toml_scale parts.1) r scaled in
+    let small : scale ≤ scale_limit = toml_scale-small parts.1 scale is_scale in
     subst (λ (made : Resource). made.scale ≤ scale_limit) value small
 
 -- the scale of a field, where it has one, is small
 IsSmall : Option ℕ → Type 0
 IsSmall scale = IfSome scale (λ s. s ≤ scale_limit)
 
-field_scale_of-small : (word : List ℕ) (scale : Option ℕ)
-    → field_scale_of word ≡ Some scale → IsSmall scale
-unfolding field_scale_of IsSmall
-field_scale_of-small word scale e = at (bytes_eq word (codes "code")) e
+toml_field_scale-small : (word : List ℕ) (scale : Option ℕ)
+    → toml_field_scale word ≡ Some scale → IsSmall scale
+unfolding toml_field_scale IsSmall
+toml_field_scale-small word scale e = at (bytes_eq word (codes "code")) e
   where
-    at : (test : Bool) → cond test (Some None) (option_map Some (scale_of word)) ≡ Some scale
+    at : (test : Bool) → cond test (Some None) (option_map Some (toml_scale word)) ≡ Some scale
         → IfSome scale (λ s. s ≤ scale_limit)
-    at true e = subst (λ (found : Option ℕ). IfSome found (λ s. s ≤ scale_limit)) (same_Some _ _ e) tt
+    at true e = subst (λ (found : Option ℕ). IfSome found (λ s. s ≤ scale_limit)) (same_Some _ _ e)
+        tt
     at false e =
-        let (s, is_scale, value) = map-Some Some (scale_of word) scale e in
+        let (s, is_scale, value) = map-Some Some (toml_scale word) scale e in
         subst (λ (found : Option ℕ). IfSome found (λ s. s ≤ scale_limit)) value
-        (scale_of-small word s is_scale)
+        (toml_scale-small word s is_scale)
 
 -- a field that is spelled has a small scale, if it has one
-field_of-small : (text : List ℕ) (f : DocumentField) → field_of text ≡ Some f → IsSmall f.scale
-unfolding field_of
-field_of-small text f e =
+toml_field-small : (text : List ℕ) (f : DocumentField) → toml_field text ≡ Some f → IsSmall f.scale
+unfolding toml_field
+toml_field-small text f e =
     let (parts, split, named) = and_then-Some _ (at_colon text) f e in
-    let (name, is_named, scaled) = and_then-Some _ (name_of parts.0) f named in
-    let (scale, is_scale, value) = map-Some _ (field_scale_of parts.1) f scaled in
-    subst (λ (made : DocumentField). IsSmall made.scale) value (field_scale_of-small parts.1 scale is_scale)
+    let (name, is_named, scaled) = and_then-Some _ (toml_name parts.0) f named in
+    let (scale, is_scale, value) = map-Some _ (toml_field_scale parts.1) f scaled in
+    subst (λ (made : DocumentField). IsSmall made.scale) value
+    (toml_field_scale-small parts.1 scale is_scale)
 
 -- a register that is read has few dimensions
 read_dimensions-few : (name : List ℕ) (keys : Members) (ds : List Dimension)
@@ -87,7 +89,7 @@ read_dimensions-few : (name : List ℕ) (keys : Members) (ds : List Dimension)
 unfolding read_dimensions
 read_dimensions-few name keys ds e =
     let path = key_path (codes "register") name (codes "dimensions") in
-    let held = of_shape (text_list dimension_of) (codes "dimensions") keys in
+    let held = of_shape (toml_texts toml_dimension) (codes "dimensions") keys in
     let (found, shape, more) = bind-Ok (some_or held (Field path)) _ ds e in
     let (u, few, last) = bind-Ok (at_most dimension_limit path (length found)) _ ds more in
     let same = distinct-Ok (λ (d : Dimension). d.name) (λ (d : Dimension). d.lot) found ds last in
@@ -106,7 +108,7 @@ read_resources-within : (name : List ℕ) (keys : Members) (rs : List Resource)
 unfolding read_resources
 read_resources-within name keys rs e =
     let path = key_path (codes "register") name (codes "resources") in
-    let held = of_shape (text_list resource_of) (codes "resources") keys in
+    let held = of_shape (toml_texts toml_resource) (codes "resources") keys in
     let (found, shape, more) = bind-Ok (some_or held (Field path)) _ rs e in
     let (u, filled, rest) = bind-Ok (unless (nat_le 1 (length found)) (Field path)) _ rs more in
     let (v, few, last) = bind-Ok (at_most resource_limit path (length found)) _ rs rest in
@@ -116,7 +118,7 @@ read_resources-within name keys rs e =
     subst HasResources same (record {
       some_resource = some;
       few_resources = at_most-Ok resource_limit path (length found) v few;
-      small_scales = text_list-all resource_of (λ r. r.scale ≤ scale_limit) resource_of-small
+      small_scales = toml_texts-all toml_resource (λ r. r.scale ≤ scale_limit) toml_resource-small
           (codes "resources") keys found (some_or-Ok _ (Field path) found shape);
     })
 
@@ -149,13 +151,14 @@ read_fields-within : (name key : List ℕ) (keys : Members) (fields : List Docum
 unfolding read_fields
 read_fields-within name key keys fields e =
     let path = key_path (codes "document") name key in
-    let held = of_shape (text_list field_of) key keys in
+    let held = of_shape (toml_texts toml_field) key keys in
     let (found, shape, more) = bind-Ok (some_or held (Field path)) _ fields e in
     let (u, few, last) = bind-Ok (at_most field_limit path (length found)) _ fields more in
-    let same = distinct-Ok (λ (f : DocumentField). f.name) (λ (f : DocumentField). false) found fields last in
+    let same = distinct-Ok (λ (f : DocumentField). f.name) (λ (f : DocumentField). false) found
+    fields last in
     subst AreFewFields same (record {
       few = at_most-Ok field_limit path (length found) u few;
-      small = text_list-all field_of (λ f. IsSmall f.scale) field_of-small
+      small = toml_texts-all toml_field (λ f. IsSmall f.scale) toml_field-small
           key keys found (some_or-Ok _ (Field path) found shape);
     })
 
@@ -169,7 +172,8 @@ read_kind-within name d k e =
     let (head, is_head, b) = bind-Ok (read_fields name (codes "head") keys) _ k a in
     let (lines, are_lines, c) = bind-Ok (read_fields name (codes "lines") keys) _ k b in
     let path = key_path (codes "document") name (codes "rules") in
-    let (rules, are_rules, made) = bind-Ok (some_or (of_shape as_str (codes "rules") keys) (Field path)) _ k c in
+    let (rules, are_rules, made) =
+    bind-Ok (some_or (of_shape as_str (codes "rules") keys) (Field path)) _ k c in
     let heads = read_fields-within name (codes "head") keys head is_head in
     let others = read_fields-within name (codes "lines") keys lines are_lines in
     subst IsKindWithinLimits (same_Ok _ _ made) (record {

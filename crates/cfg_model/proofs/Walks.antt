@@ -15,26 +15,24 @@ use Rattle.std.specs.Cmp.Lexicographic.{slice_cmp}
 use Rattle.std.specs.List.{AllByRecursion}
 use Rattle.std.specs.List.Sorted.{IsStrictlySortedBy}
 use Rattle.cfg_model.specs.Resolving.{AreAscending}
-use Rattle.cfg_model.specs.Walk.{member_count, member_keys, each_item, each_entry}
+use Rattle.cfg_model.specs.Walk.{member_count, member_keys, toml_each, each_entry}
 use Rattle.cfg_model.specs.declared.fault.CfgFault.{CfgFault}
+use Rattle.cfg_model.proofs.ForAbove.{result_front}
 
 -- the elements in front of those that are left, where these are some
 abbrev pub with_front : {X : Type 0} → List X → Option (List X) → Option (List X)
 with_front front rest = option_map (λ xs. front ++ xs) rest
 
--- the same for an answer
-abbrev pub result_front : {X F : Type 0} → List X → Result (List X) F → Result (List X) F
-result_front front rest = rest >>= (λ xs. Ok (front ++ xs))
-
 -- the items from a place on are the one there, and those behind it
-each_item-at : {X : Type 0} (shape : Data → Option X) (vs : List Value) (i : ℕ) (v : Value)
+toml_each-at : {X : Type 0} (shape : Data → Option X) (vs : List Value) (i : ℕ) (v : Value)
     → i < length vs → v ≡ get_or vs i v
-    → each_item shape (items_view (drop i vs))
-    ≡ option_and_then (λ x. option_map (λ xs. x ∷ xs) (each_item shape (items_view (drop (i + 1) vs))))
+    → toml_each shape (items_view (drop i vs))
+    ≡ option_and_then (λ x. option_map (λ xs. x ∷ xs)
+    (toml_each shape (items_view (drop (i + 1) vs))))
     (shape (view v))
-each_item-at shape vs i v more is =
-    at_drop_more (λ us. each_item shape (items_view us)) vs i v more
-    ∙ ap (λ u. each_item shape (items_view (u ∷ drop (i + 1) vs))) (sym is)
+toml_each-at shape vs i v more is =
+    at_drop_more (λ us. toml_each shape (items_view us)) vs i v more
+    ∙ ap (λ u. toml_each shape (items_view (u ∷ drop (i + 1) vs))) (sym is)
 
 front_with-none : {X : Type 0} (front : List X) (first : Option X) (rest : Option (List X))
     → first ≡ None
@@ -49,25 +47,25 @@ front_with-more front x None = refl
 -- an item of the wrong shape ends the walk
 pub items-none : {X : Type 0} (shape : Data → Option X) (front : List X) (vs : List Value) (i : ℕ)
     → (v : Value) → i < length vs → v ≡ get_or vs i v → shape (view v) ≡ None
-    → with_front front (each_item shape (items_view (drop i vs))) ≡ None
+    → with_front front (toml_each shape (items_view (drop i vs))) ≡ None
 items-none shape front vs i v more is none =
-    ap (with_front front) (each_item-at shape vs i v more is)
-    ∙ front_with-none front (shape (view v)) (each_item shape (items_view (drop (i + 1) vs))) none
+    ap (with_front front) (toml_each-at shape vs i v more is)
+    ∙ front_with-none front (shape (view v)) (toml_each shape (items_view (drop (i + 1) vs))) none
 
 -- an item of the right shape goes from those that are left to those in front
 pub items-more : {X : Type 0} (shape : Data → Option X) (front grown : List X) (vs : List Value)
     → (i : ℕ) (v : Value) (x : X) → i < length vs → v ≡ get_or vs i v → shape (view v) ≡ Some x
     → grown ≡ front ++ x ∷ []
-    → with_front grown (each_item shape (items_view (drop (i + 1) vs)))
-    ≡ with_front front (each_item shape (items_view (drop i vs)))
+    → with_front grown (toml_each shape (items_view (drop (i + 1) vs)))
+    ≡ with_front front (toml_each shape (items_view (drop i vs)))
 items-more {X = X} shape front grown vs i v x more is some grows =
-    let rest = each_item shape (items_view (drop (i + 1) vs)) in
+    let rest = toml_each shape (items_view (drop (i + 1) vs)) in
     let step : Option X → Option (List X)
     = λ first. with_front front (option_and_then (λ y. option_map (λ xs. y ∷ xs) rest) first) in
     ap (λ xs. with_front xs rest) grows
     ∙ front_with-more front x rest
     ∙ ap step (sym some)
-    ∙ ap (with_front front) (sym (each_item-at shape vs i v more is))
+    ∙ ap (with_front front) (sym (toml_each-at shape vs i v more is))
 
 -- a table has as many members as entries
 pub member_count-view : (es : List Entry) → member_count (members_view es) ≡ length es
@@ -119,10 +117,12 @@ entries-end read front left all told is =
     ∙ each_entry-none read front
 
 -- a name that was read goes from the keys that are left to the names in front
-pub names-more : {X : Type 0} (name_of : X → List ℕ) (front : List X) (x : X) (keys : List (List ℕ))
-    → map name_of (front ++ x ∷ []) ++ keys ≡ map name_of front ++ name_of x ∷ keys
-names-more name_of [] x keys = refl
-names-more name_of (y ∷ front) x keys = ap (λ names. name_of y ∷ names) (names-more name_of front x keys)
+pub names-more : {X : Type 0} (entry_name : X
+    → List ℕ) (front : List X) (x : X) (keys : List (List ℕ))
+    → map entry_name (front ++ x ∷ []) ++ keys ≡ map entry_name front ++ entry_name x ∷ keys
+names-more entry_name [] x keys = refl
+names-more entry_name (y ∷ front) x keys =
+    ap (λ names. entry_name y ∷ names) (names-more entry_name front x keys)
 
 -- where no key is left, the names in front are all
 pub names-all : (names : List (List ℕ)) → names ++ [] ≡ names

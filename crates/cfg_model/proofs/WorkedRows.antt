@@ -4,6 +4,7 @@ use Rattle.std.proofs.Common.{Ok, Err, pos, negsuc, refl}
 use Rattle.toml.specs.Data.{Data, string, integer, boolean, array, table, Items, no_items, item}
 use Rattle.toml.specs.Data.{Members, no_members, member}
 use Rattle.reg_base.specs.Codes.{is_name, is_code}
+use Rattle.reg_base.specs.Numbers.{number_text}
 use Rattle.reg_base.specs.declared.records.Side.{Side}
 use Rattle.cfg_model.specs.declared.ledger.Chart.{Chart}
 use Rattle.cfg_model.specs.declared.register.Register.{Register}
@@ -11,18 +12,21 @@ use Rattle.cfg_model.specs.declared.kind.Kind.{Kind}
 use Rattle.cfg_model.specs.declared.account.Account.{Account}
 use Rattle.cfg_model.specs.declared.account.Nature.TheVariants.{Active}
 use Rattle.cfg_model.specs.declared.clerk.Right.TheVariants.{Manual, Read}
-use Rattle.cfg_model.specs.declared.fault.CfgFault.TheVariants.{Field, Twice, Unknown, Count}
+use Rattle.cfg_model.specs.declared.fault.CfgFault.TheVariants.{NotToml, Field, Twice, Unknown}
+use Rattle.cfg_model.specs.declared.fault.CfgFault.TheVariants.{Count}
 use Rattle.reg_base.specs.declared.fault.EntryFault.TheVariants.{UnknownAccount, GroupAccount}
 use Rattle.reg_base.specs.declared.fault.EntryFault.TheVariants.{ExtraCount, Sides}
-use Rattle.cfg_model.specs.Elements.{dimension_of, lot_of, scale_of, resource_of, field_of}
-use Rattle.cfg_model.specs.Elements.{field_scale_of, account_name_of, nature_of, right_of}
+use Rattle.cfg_model.specs.Elements.{toml_dimension, toml_lot, toml_scale, toml_resource}
+use Rattle.cfg_model.specs.Elements.{toml_field}
+use Rattle.cfg_model.specs.Elements.{toml_field_scale, toml_account_name, toml_nature, toml_right}
 use Rattle.cfg_model.specs.Elements.{right_word}
-use Rattle.cfg_model.specs.FaultTexts.{fault_text}
+use Rattle.cfg_model.specs.FaultTexts.{config_fault_text}
 use Rattle.cfg_model.specs.Walk.{group_entries, each_entry, read_group, entry_keys, all_known}
-use Rattle.cfg_model.specs.Registers.{read_register, balance_of, read_balance, read_dimensions}
+use Rattle.cfg_model.specs.Registers.{read_register, keeps_balances, read_balance, read_dimensions}
 use Rattle.cfg_model.specs.Registers.{read_resources, read_split}
 use Rattle.cfg_model.specs.Ledgers.{read_ledger, read_scale, scale_number}
-use Rattle.cfg_model.specs.Accounts.{read_accounts, account_of, account_of_keys, each_checked}
+use Rattle.cfg_model.specs.Accounts.{check_accounts, check_parents}
+use Rattle.cfg_model.specs.Accounts.{read_accounts, toml_account, toml_account_keys, each_checked}
 use Rattle.cfg_model.specs.Accounts.{each_once, parent_known, leads_to, agrees_in_off}
 use Rattle.cfg_model.specs.Kinds.{read_kind, read_fields}
 use Rattle.cfg_model.specs.Sequences.{read_sequence, sequence_of, read_names, read_some_names}
@@ -158,12 +162,13 @@ accepted : config_of (file goods (accounts two_accounts) receipt
       clerks = record { name = codes "anna"; rights = Read ∷ Manual ∷ [] } ∷ [];
     })
 unfolding config_of read_group group_entries each_entry entry_keys all_known is_name is_code
-    read_register read_balance balance_of read_dimensions dimension_of lot_of read_resources
-    resource_of scale_of read_split read_ledger read_scale scale_number read_accounts account_of
-    account_of_keys account_name_of nature_of each_checked each_once parent_known leads_to
-    agrees_in_off account_at read_kind read_fields field_of field_scale_of read_sequence
+    read_register read_balance keeps_balances read_dimensions toml_dimension toml_lot read_resources
+    toml_resource toml_scale read_split read_ledger read_scale scale_number read_accounts
+    check_accounts check_parents toml_account
+    toml_account_keys toml_account_name toml_nature each_checked each_once parent_known leads_to
+    agrees_in_off account_at read_kind read_fields toml_field toml_field_scale read_sequence
     sequence_of read_names read_some_names read_documents read_affecting all_shared read_clerk
-    read_rights right_of right_word
+    read_rights toml_right right_word
 accepted = refl
 
 -- a key of the top level that is none
@@ -194,14 +199,14 @@ reserved = refl
 -- a clerk has a right that is none
 wrong_right : read_clerk (codes "anna") (table (with_rights (codes "walk" ∷ [])))
     ≡ Err (Field (codes "clerk.anna.rights"))
-unfolding read_clerk read_rights entry_keys is_name right_of
+unfolding read_clerk read_rights entry_keys is_name toml_right
 wrong_right = refl
 
 -- a second dimension of lots
 second_lot : read_dimensions (codes "goods")
     (one (codes "dimensions") (texts_of (codes "a:lot" ∷ codes "b:code" ∷ codes "c:lot" ∷ [])))
     ≡ Err (Twice (codes "c"))
-unfolding read_dimensions dimension_of lot_of is_name
+unfolding read_dimensions toml_dimension toml_lot is_name
 second_lot = refl
 
 -- nine dimensions are too many before one of them stands twice
@@ -209,7 +214,7 @@ too_many : read_dimensions (codes "goods") (one (codes "dimensions") (texts_of (
     codes "a:code" ∷ codes "b:code" ∷ codes "c:code" ∷ codes "d:code" ∷ codes "e:code"
     ∷ codes "f:code" ∷ codes "g:code" ∷ codes "h:code" ∷ codes "a:code" ∷ [])))
     ≡ Err (Count (codes "register.goods.dimensions") 9)
-unfolding read_dimensions dimension_of lot_of is_name
+unfolding read_dimensions toml_dimension toml_lot is_name
 too_many = refl
 
 -- the scales 7 and -1 are none
@@ -227,7 +232,7 @@ scale_negative = refl
 wrong_account : read_accounts (codes "main")
     (accounts (item (account (codes "10") (one (codes "x") (integer (pos 1)))) no_items))
     ≡ Err (Field (codes "ledger.main.accounts"))
-unfolding read_accounts account_of account_of_keys
+unfolding read_accounts check_accounts check_parents toml_account toml_account_keys
 wrong_account = refl
 
 -- four extras are too many before one of them stands twice
@@ -235,7 +240,8 @@ four_extras : read_accounts (codes "main") (accounts (item (account (codes "10")
     (one (codes "extras") (texts_of (codes "a" ∷ codes "b" ∷ codes "c" ∷ codes "a" ∷ []))))
     no_items))
     ≡ Err (Count (codes "ledger.main.accounts") 4)
-unfolding read_accounts account_of account_of_keys account_name_of nature_of is_name is_code
+unfolding read_accounts check_accounts check_parents toml_account toml_account_keys
+    toml_account_name toml_nature is_name is_code
     each_checked
 four_extras = refl
 
@@ -244,7 +250,8 @@ code_twice : read_accounts (codes "main")
     (accounts (item (part_of (codes "10") (codes "9"))
     (item (account (codes "10") no_members) no_items)))
     ≡ Err (Twice (codes "10"))
-unfolding read_accounts account_of account_of_keys account_name_of nature_of is_code
+unfolding read_accounts check_accounts check_parents toml_account toml_account_keys
+    toml_account_name toml_nature is_code
     each_checked each_once
 code_twice = refl
 
@@ -253,7 +260,8 @@ unknown_parent : read_accounts (codes "main")
     (accounts (item (part_of (codes "1") (codes "1"))
     (item (part_of (codes "2") (codes "9")) no_items)))
     ≡ Err (Unknown (codes "9"))
-unfolding read_accounts account_of account_of_keys account_name_of nature_of is_code
+unfolding read_accounts check_accounts check_parents toml_account toml_account_keys
+    toml_account_name toml_nature is_code
     each_checked each_once parent_known account_at
 unknown_parent = refl
 
@@ -262,7 +270,8 @@ leads_back : read_accounts (codes "main")
     (accounts (item (part_of (codes "3") (codes "1")) (item (part_of (codes "1") (codes "2"))
     (item (part_of (codes "2") (codes "1")) no_items))))
     ≡ Err (Twice (codes "1"))
-unfolding read_accounts account_of account_of_keys account_name_of nature_of is_code
+unfolding read_accounts check_accounts check_parents toml_account toml_account_keys
+    toml_account_name toml_nature is_code
     each_checked each_once parent_known account_at leads_to
 leads_back = refl
 
@@ -271,7 +280,8 @@ off_differs : read_accounts (codes "main") (accounts (item (account (codes "1") 
     (item (account (codes "2") (member (codes "off") (boolean true)
     (one (codes "parent") (string (codes "1"))))) no_items)))
     ≡ Err (Field (codes "ledger.main.accounts"))
-unfolding read_accounts account_of account_of_keys account_name_of nature_of is_code
+unfolding read_accounts check_accounts check_parents toml_account toml_account_keys
+    toml_account_name toml_nature is_code
     each_checked each_once parent_known account_at leads_to agrees_in_off
 off_differs = refl
 
@@ -333,10 +343,32 @@ unfolding read_sequence sequence_of entry_keys is_name read_documents read_affec
     read_some_names read_names all_shared all_known
 lot_of_goods = refl
 
--- the text of a fault
-field_text : fault_text (Field (codes "register.stock.kind")) ≡ codes "2 Field register.stock.kind"
-unfolding fault_text
+-- the text of each fault
+not_toml_text : config_fault_text NotToml ≡ codes "1 NotToml"
+unfolding config_fault_text
+not_toml_text = refl
+
+field_text :
+    config_fault_text (Field (codes "register.stock.kind")) ≡ codes "2 Field register.stock.kind"
+unfolding config_fault_text
 field_text = refl
+
+twice_text : config_fault_text (Twice (codes "101")) ≡ codes "3 Twice 101"
+unfolding config_fault_text
+twice_text = refl
+
+unknown_text : config_fault_text (Unknown (codes "x")) ≡ codes "4 Unknown x"
+unfolding config_fault_text
+unknown_text = refl
+
+count_of_33 : config_fault_text (Count (codes "register") 33) ≡ codes "5 Count register 33"
+unfolding config_fault_text number_text
+count_of_33 = refl
+
+count_of_513 : config_fault_text (Count (codes "ledger.main.accounts") 513)
+    ≡ codes "5 Count ledger.main.accounts 513"
+unfolding config_fault_text number_text
+count_of_513 = refl
 
 -- the same account, off-balance
 abbrev leased : Account → Account

@@ -1,6 +1,6 @@
 -- Private: accounts, and their places, in maps by their codes.
-use Rattle.std.specs.Prelude.{◌≡◌, ℕ, zero, suc, List, [], ◌∷◌, map, slice_get, Bool, true, false}
-use Rattle.std.specs.Prelude.{Option, Some, None, option_map, option_and_then, if◌then◌else◌}
+use Rattle.std.specs.Prelude.{◌≡◌, ℕ, suc, List, [], ◌∷◌, map}
+use Rattle.std.specs.Prelude.{Option, Some, None, option_map, if◌then◌else◌}
 use Rattle.std.specs.Cmp.Lexicographic.{slice_cmp}
 use Rattle.std.specs.List.{AllByRecursion}
 use Rattle.std.specs.Map.{lookup}
@@ -38,21 +38,3 @@ first_place code (a ∷ more) =
 abbrev pub LeadsToPlaces : List Placed → List Account → Type 0
 LeadsToPlaces entries accounts =
     (code : List ℕ) → place_at code entries ≡ first_place code accounts
-
--- the place of an account's parent
-abbrev pub parent_place : List Account → Account → Option ℕ
-parent_place accounts a = option_and_then (λ code. first_place code accounts) a.parent
-
--- whether there is an account, and it has this code
-abbrev pub has_this_code : List ℕ → Option Account → Bool
-has_this_code code None = false
-has_this_code code (Some a) = bytes_eq a.code code
-
--- whether so many steps from this place to that of the parent come to an account of the code
-unfoldable pub comes_to : ℕ → List Account → List ℕ → Option ℕ → Bool
-comes_to zero accounts code place = false
-comes_to (suc steps) accounts code None = false
-comes_to (suc steps) accounts code (Some place) =
-    if has_this_code code (slice_get accounts place) then true
-    else comes_to steps accounts code
-    (option_and_then (parent_place accounts) (slice_get accounts place))

@@ -11,9 +11,10 @@ use Rattle.reg_base.specs.Results.{◌>>=◌, unless, some_or}
 use Rattle.cfg_model.specs.declared.account.Account.{Account}
 use Rattle.cfg_model.specs.declared.fault.CfgFault.{CfgFault}
 use Rattle.cfg_model.specs.declared.fault.CfgFault.TheVariants.{Field, Twice, Unknown}
-use Rattle.cfg_model.specs.Words.{is_one_of, first_unknown, key_path, account_keys}
-use Rattle.cfg_model.specs.Elements.{name_of, code_of, account_name_of, nature_of}
-use Rattle.cfg_model.specs.Walk.{at_most, distinct, of_shape, shape_or, list_of, text_of, text_list}
+use Rattle.cfg_model.specs.Words.{is_one_of, first_unknown_key, key_path, account_keys}
+use Rattle.cfg_model.specs.Elements.{toml_name, toml_code, toml_account_name, toml_nature}
+use Rattle.cfg_model.specs.Walk.{at_most, distinct, of_shape, shape_or, toml_list, toml_text}
+use Rattle.cfg_model.specs.Walk.{toml_texts}
 use Rattle.cfg_model.specs.Places.{account_at}
 use Rattle.cfg_model.specs.Limits.{account_limit, extra_limit}
 
@@ -23,18 +24,18 @@ then_some found next = option_and_then next found
 
 -- the code of a parent
 abbrev pub parent_code : Data → Option (Option (List ℕ))
-parent_code d = option_map Some (text_of code_of d)
+parent_code d = option_map Some (toml_text toml_code d)
 
 -- an account whose table has these keys: the code, the name and the kind are there, the others
 -- may be absent, and each is of its shape
-unfoldable pub account_of_keys : Members → Option Account
-account_of_keys keys =
-    then_some (of_shape (text_of code_of) (codes "code") keys) (λ code.
-    then_some (of_shape (text_of account_name_of) (codes "name") keys) (λ name.
-    then_some (of_shape (text_of nature_of) (codes "kind") keys) (λ nature.
+unfoldable pub toml_account_keys : Members → Option Account
+toml_account_keys keys =
+    then_some (of_shape (toml_text toml_code) (codes "code") keys) (λ code.
+    then_some (of_shape (toml_text toml_account_name) (codes "name") keys) (λ name.
+    then_some (of_shape (toml_text toml_nature) (codes "kind") keys) (λ nature.
     then_some (shape_or as_bool false (get_member (codes "off") keys)) (λ off.
     then_some (shape_or parent_code None (get_member (codes "parent") keys)) (λ parent.
-    then_some (shape_or (text_list name_of) [] (get_member (codes "extras") keys)) (λ extras.
+    then_some (shape_or (toml_texts toml_name) [] (get_member (codes "extras") keys)) (λ extras.
     Some (record {
       code = code;
       name = name;
@@ -45,9 +46,9 @@ account_of_keys keys =
     })))))))
 
 -- an account: a table with no other key than those of accounts
-unfoldable pub account_of : Data → Option Account
-account_of d = then_some (as_table d) (λ keys.
-    if is_some (first_unknown account_keys keys) then None else account_of_keys keys)
+unfoldable pub toml_account : Data → Option Account
+toml_account d = then_some (as_table d) (λ keys.
+    if is_some (first_unknown_key account_keys keys) then None else toml_account_keys keys)
 
 -- a check of each account in turn, the first fault being the answer
 unfoldable pub each_checked : (Account → Result (Unit {0}) CfgFault) → List Account
@@ -118,16 +119,26 @@ put_account a (b ∷ more) = match_ordering (slice_cmp nat_cmp a.code b.code)
 abbrev pub by_code : List Account → List Account
 by_code accounts = fold (λ sorted a. put_account a sorted) [] accounts
 
+-- parents are accounts, do not lead back, and agree in `off`
+unfoldable pub check_parents : List ℕ → List Account → Result (Unit {0}) CfgFault
+check_parents path accounts = do
+  _ ← each_checked (has_known_parent accounts) accounts
+  _ ← each_checked (not_circular accounts) accounts
+  each_checked (has_parents_off path accounts) accounts
+
+-- no account has too many extras, none stands twice, and parents are as they have to be
+unfoldable pub check_accounts : List ℕ → List Account → Result (Unit {0}) CfgFault
+check_accounts path accounts = do
+  _ ← each_checked (few_extras path) accounts
+  _ ← each_once [] accounts
+  check_parents path accounts
+
 -- the accounts of a ledger: the right shape, then not too many nor too many extras, then none
 -- twice, then parents that are accounts, that do not lead back, and that agree in `off`
 unfoldable pub read_accounts : List ℕ → Members → Result (List Account) CfgFault
 read_accounts name keys = do
   let path = key_path (codes "ledger") name (codes "accounts")
-  accounts ← some_or (of_shape (list_of account_of) (codes "accounts") keys) (Field path)
+  accounts ← some_or (of_shape (toml_list toml_account) (codes "accounts") keys) (Field path)
   _ ← at_most account_limit path (length accounts)
-  _ ← each_checked (few_extras path) accounts
-  _ ← each_once [] accounts
-  _ ← each_checked (has_known_parent accounts) accounts
-  _ ← each_checked (not_circular accounts) accounts
-  _ ← each_checked (has_parents_off path accounts) accounts
+  _ ← check_accounts path accounts
   Ok (by_code accounts)

@@ -7,14 +7,14 @@ use Rattle.cfg_model.specs.declared.clerk.Right.{Right}
 use Rattle.cfg_model.specs.declared.fault.CfgFault.{CfgFault}
 use Rattle.cfg_model.specs.declared.fault.CfgFault.TheVariants.{Field}
 use Rattle.cfg_model.specs.Words.{key_path, clerk_keys}
-use Rattle.cfg_model.specs.Elements.{right_of, right_word}
-use Rattle.cfg_model.specs.Walk.{entry_keys, of_shape, text_list, distinct}
+use Rattle.cfg_model.specs.Elements.{toml_right, right_word}
+use Rattle.cfg_model.specs.Walk.{entry_keys, of_shape, toml_texts, distinct}
 
 -- the rights of a clerk: the right shape, then none twice
 unfoldable pub read_rights : List ℕ → Members → Result (List Right) CfgFault
 read_rights name keys = do
   let path = key_path (codes "clerk") name (codes "rights")
-  rights ← some_or (of_shape (text_list right_of) (codes "rights") keys) (Field path)
+  rights ← some_or (of_shape (toml_texts toml_right) (codes "rights") keys) (Field path)
   distinct right_word (λ r. false) rights
 
 -- a clerk: the rights

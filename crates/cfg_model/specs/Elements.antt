@@ -21,55 +21,55 @@ at_colon text =
     else None
 
 -- the name, where the text is one
-abbrev pub name_of : List ℕ → Option (List ℕ)
-name_of text = if is_name text then Some text else None
+abbrev pub toml_name : List ℕ → Option (List ℕ)
+toml_name text = if is_name text then Some text else None
 
 -- the code, where the text is one
-abbrev pub code_of : List ℕ → Option (List ℕ)
-code_of text = if is_code text then Some text else None
+abbrev pub toml_code : List ℕ → Option (List ℕ)
+toml_code text = if is_code text then Some text else None
 
 -- whether a dimension's word is that of lots or that of codes
-unfoldable pub lot_of : List ℕ → Option Bool
-lot_of word =
+unfoldable pub toml_lot : List ℕ → Option Bool
+toml_lot word =
     if bytes_eq word (codes "code") then Some false
     else if bytes_eq word (codes "lot") then Some true
     else None
 
 -- a dimension is spelled as its name, a colon, and `code` or `lot`
-unfoldable pub dimension_of : List ℕ → Option Dimension
-dimension_of text =
+unfoldable pub toml_dimension : List ℕ → Option Dimension
+toml_dimension text =
     option_and_then (λ parts.
     option_and_then (λ name.
-    option_map (λ lot. record { name = name; lot = lot }) (lot_of parts.1))
-    (name_of parts.0))
+    option_map (λ lot. record { name = name; lot = lot }) (toml_lot parts.1))
+    (toml_name parts.0))
     (at_colon text)
 
 -- a scale is spelled as one digit from 0 to 6
-unfoldable pub scale_of : List ℕ → Option ℕ
-scale_of (digit ∷ []) = if nat_le 48 digit && nat_le digit 54 then Some (digit - 48) else None
-scale_of _ = None
+unfoldable pub toml_scale : List ℕ → Option ℕ
+toml_scale (digit ∷ []) = if nat_le 48 digit && nat_le digit 54 then Some (digit - 48) else None
+toml_scale _ = None
 
 -- a resource is spelled as its name, a colon and its scale
-unfoldable pub resource_of : List ℕ → Option Resource
-resource_of text =
+unfoldable pub toml_resource : List ℕ → Option Resource
+toml_resource text =
     option_and_then (λ parts.
     option_and_then (λ name.
-    option_map (λ scale. record { name = name; scale = scale }) (scale_of parts.1))
-    (name_of parts.0))
+    option_map (λ scale. record { name = name; scale = scale }) (toml_scale parts.1))
+    (toml_name parts.0))
     (at_colon text)
 
 -- what a field holds: a code, which has no scale, or a number of the scale that is spelled
-unfoldable pub field_scale_of : List ℕ → Option (Option ℕ)
-field_scale_of word =
-    if bytes_eq word (codes "code") then Some None else option_map Some (scale_of word)
+unfoldable pub toml_field_scale : List ℕ → Option (Option ℕ)
+toml_field_scale word =
+    if bytes_eq word (codes "code") then Some None else option_map Some (toml_scale word)
 
 -- a field is spelled as its name, a colon, and `code` or its scale
-unfoldable pub field_of : List ℕ → Option Field
-field_of text =
+unfoldable pub toml_field : List ℕ → Option Field
+toml_field text =
     option_and_then (λ parts.
     option_and_then (λ name.
-    option_map (λ scale. record { name = name; scale = scale }) (field_scale_of parts.1))
-    (name_of parts.0))
+    option_map (λ scale. record { name = name; scale = scale }) (toml_field_scale parts.1))
+    (toml_name parts.0))
     (at_colon text)
 
 -- a byte that is printed: from the space to the tilde
@@ -77,14 +77,14 @@ abbrev pub is_printable : ℕ → Bool
 is_printable b = nat_le 32 b && nat_le b 126
 
 -- the name of an account is 1 to 32 such bytes
-unfoldable pub account_name_of : List ℕ → Option (List ℕ)
-account_name_of text =
+unfoldable pub toml_account_name : List ℕ → Option (List ℕ)
+toml_account_name text =
     if nat_le 1 (length text) && (nat_le (length text) 32 && list_all is_printable text)
     then Some text else None
 
 -- the side on which an account shows its net
-unfoldable pub nature_of : List ℕ → Option Nature
-nature_of word =
+unfoldable pub toml_nature : List ℕ → Option Nature
+toml_nature word =
     if bytes_eq word (codes "active") then Some Active
     else if bytes_eq word (codes "passive") then Some Passive
     else if bytes_eq word (codes "both") then Some Both
@@ -100,8 +100,8 @@ right_word Lock = codes "lock"
 right_word Admin = codes "admin"
 
 -- the right that a word names
-unfoldable pub right_of : List ℕ → Option Right
-right_of text =
+unfoldable pub toml_right : List ℕ → Option Right
+toml_right text =
     if bytes_eq text (codes "write") then Some Write
     else if bytes_eq text (codes "post") then Some Post
     else if bytes_eq text (codes "manual") then Some Manual

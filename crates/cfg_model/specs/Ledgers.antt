@@ -24,11 +24,16 @@ read_scale name keys =
     some_or (of_shape (λ d. option_and_then scale_number (as_integer d)) (codes "scale") keys)
     (Field (key_path (codes "ledger") name (codes "scale")))
 
--- a ledger: a name that is no register's, then its scale, its splitting, its accounts
-unfoldable pub read_ledger : List Register → List ℕ → Data → Result Chart CfgFault
-read_ledger registers name d = do
-  keys ← entry_keys (codes "ledger") registers ledger_keys name d
+-- the keys of a ledger: its scale, its splitting, its accounts
+abbrev pub ledger_of : List ℕ → Members → Result Chart CfgFault
+ledger_of name keys = do
   scale ← read_scale name keys
   split ← read_split (codes "ledger") name keys
   accounts ← read_accounts name keys
   Ok (record { name = name; scale = scale; split = split; accounts = accounts })
+
+-- a ledger, whose name is no register's
+unfoldable pub read_ledger : List Register → List ℕ → Data → Result Chart CfgFault
+read_ledger registers name d = do
+  keys ← entry_keys (codes "ledger") registers ledger_keys name d
+  ledger_of name keys

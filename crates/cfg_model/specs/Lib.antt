@@ -6,13 +6,11 @@ pub mod Places
 pub mod Registers
 pub mod Accounts
 pub mod AccountMaps
-pub mod AccountChecks
 pub mod Ledgers
 pub mod Kinds
 pub mod Labels
 pub mod Sequences
 pub mod Clerks
-pub mod EntryParts
 pub mod Reading
 pub mod Resolving
 pub mod Entries

@@ -18,8 +18,8 @@ use Rattle.cfg_model.specs.Sequences.{read_sequence}
 use Rattle.cfg_model.specs.Clerks.{read_clerk}
 
 -- the table that a file says: UTF-8 that the reader of TOML takes
-unfoldable pub document : List ℕ → Option Members
-document bytes = if utf8_valid_len bytes == length bytes then parse_document bytes else None
+unfoldable pub toml_document : List ℕ → Option Members
+toml_document bytes = if utf8_valid_len bytes == length bytes then parse_document bytes else None
 
 -- the configuration of a table: its keys are known, then come the groups in order
 unfoldable pub config_of : Members → Result Config CfgFault
@@ -35,5 +35,5 @@ config_of top = do
 -- the configuration that a file holds, or its first fault
 unfoldable pub read_config : List ℕ → Result Config CfgFault
 read_config bytes = do
-  top ← some_or (document bytes) NotToml
+  top ← some_or (toml_document bytes) NotToml
   config_of top

@@ -11,8 +11,8 @@ use Rattle.cfg_model.specs.declared.sequence.Sequence.{Sequence}
 use Rattle.cfg_model.specs.declared.fault.CfgFault.{CfgFault}
 use Rattle.cfg_model.specs.declared.fault.CfgFault.TheVariants.{Field}
 use Rattle.cfg_model.specs.Words.{is_one_of, key_path, sequence_keys}
-use Rattle.cfg_model.specs.Elements.{name_of}
-use Rattle.cfg_model.specs.Walk.{entry_keys, of_shape, text_list, distinct, all_known}
+use Rattle.cfg_model.specs.Elements.{toml_name}
+use Rattle.cfg_model.specs.Walk.{entry_keys, of_shape, toml_texts, distinct, all_known}
 
 -- the path of a key of a sequence
 abbrev pub sequence_path : List ℕ → List ℕ → List ℕ
@@ -21,14 +21,14 @@ sequence_path name key = key_path (codes "sequence") name key
 -- a list of names: the right shape, then none twice
 unfoldable pub read_names : List ℕ → List ℕ → Members → Result (List (List ℕ)) CfgFault
 read_names name key keys = do
-  names ← some_or (of_shape (text_list name_of) key keys) (Field (sequence_path name key))
+  names ← some_or (of_shape (toml_texts toml_name) key keys) (Field (sequence_path name key))
   distinct (λ n. n) (λ n. false) names
 
 -- a list of names with one at the least
 unfoldable pub read_some_names : List ℕ → List ℕ → Members → Result (List (List ℕ)) CfgFault
 read_some_names name key keys = do
   let path = sequence_path name key
-  names ← some_or (of_shape (text_list name_of) key keys) (Field path)
+  names ← some_or (of_shape (toml_texts toml_name) key keys) (Field path)
   _ ← unless (nat_le 1 (length names)) (Field path)
   distinct (λ n. n) (λ n. false) names
 

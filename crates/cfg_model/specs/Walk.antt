@@ -15,7 +15,7 @@ use Rattle.reg_base.specs.Results.{◌>>=◌, unless, some_or, none_or}
 use Rattle.cfg_model.specs.declared.fault.CfgFault.{CfgFault}
 use Rattle.cfg_model.specs.declared.fault.CfgFault.TheVariants.{Field, Twice, Unknown, Count}
 use Rattle.cfg_model.specs.declared.register.Register.{Register}
-use Rattle.cfg_model.specs.Words.{is_one_of, first_unknown, entry_path, reserved_names}
+use Rattle.cfg_model.specs.Words.{is_one_of, first_unknown_key, entry_path, reserved_names}
 
 -- how many members there are
 abbrev pub member_count : Members → ℕ
@@ -35,7 +35,7 @@ members_or_none (Some t) = table_view t.now
 -- a table whose keys are all known; else the least unknown one is the fault
 abbrev pub known_keys : List (List ℕ) → Members → Result Members CfgFault
 known_keys known keys = do
-  _ ← none_or (option_map Unknown (first_unknown known keys))
+  _ ← none_or (option_map Unknown (first_unknown_key known keys))
   Ok keys
 
 -- at most so many stand at the path
@@ -91,22 +91,22 @@ shape_or shape absent None = Some absent
 shape_or shape absent (Some d) = shape d
 
 -- what each item is, where each is of the right shape
-abbrev pub each_item : {X : Type 0} → (Data → Option X) → Items → Option (List X)
-each_item shape no_items = Some []
-each_item shape (item d ds) =
-    option_and_then (λ x. option_map (λ xs. x ∷ xs) (each_item shape ds)) (shape d)
+abbrev pub toml_each : {X : Type 0} → (Data → Option X) → Items → Option (List X)
+toml_each shape no_items = Some []
+toml_each shape (item d ds) =
+    option_and_then (λ x. option_map (λ xs. x ∷ xs) (toml_each shape ds)) (shape d)
 
 -- what a list holds
-abbrev pub list_of : {X : Type 0} → (Data → Option X) → Data → Option (List X)
-list_of shape d = option_and_then (each_item shape) (as_array d)
+abbrev pub toml_list : {X : Type 0} → (Data → Option X) → Data → Option (List X)
+toml_list shape d = option_and_then (toml_each shape) (as_array d)
 
 -- what a text spells
-abbrev pub text_of : {X : Type 0} → (List ℕ → Option X) → Data → Option X
-text_of reads d = option_and_then reads (as_str d)
+abbrev pub toml_text : {X : Type 0} → (List ℕ → Option X) → Data → Option X
+toml_text reads d = option_and_then reads (as_str d)
 
 -- what a list of texts spells
-abbrev pub text_list : {X : Type 0} → (List ℕ → Option X) → Data → Option (List X)
-text_list reads d = list_of (text_of reads) d
+abbrev pub toml_texts : {X : Type 0} → (List ℕ → Option X) → Data → Option (List X)
+toml_texts reads d = toml_list (toml_text reads) d
 
 -- whether an element may not stand behind these: its label is that of one of them, or both it and
 -- one of them are of the sort that stands in a list once at the most

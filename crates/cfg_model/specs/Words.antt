@@ -15,10 +15,10 @@ abbrev pub is_one_of : List (List ℕ) → List ℕ → Bool
 is_one_of words text = list_any (λ word. bytes_eq word text) words
 
 -- the least key in byte order that is not known: members stand in that order
-abbrev pub first_unknown : List (List ℕ) → Members → Option (List ℕ)
-first_unknown known no_members = None
-first_unknown known (member key d ms) =
-    if is_one_of known key then first_unknown known ms else Some key
+abbrev pub first_unknown_key : List (List ℕ) → Members → Option (List ℕ)
+first_unknown_key known no_members = None
+first_unknown_key known (member key d ms) =
+    if is_one_of known key then first_unknown_key known ms else Some key
 
 -- where an entry stands, as `register.stock`
 abbrev pub entry_path : List ℕ → List ℕ → List ℕ

@@ -4,21 +4,21 @@ ghost use Rattle.std.specs.Prelude.{IfOk};
 ghost use Rattle.std.specs.List.{list_all};
 ghost use Rattle.toml.specs.Data.{get_member};
 ghost use Rattle.toml.specs.View.{view, table_view};
-ghost use Rattle.cfg_model.specs.Accounts.{account_of, account_of_keys, parent_code};
-ghost use Rattle.cfg_model.specs.Elements.{code_of, name_of, account_name_of, nature_of};
+ghost use Rattle.cfg_model.specs.Accounts.{toml_account, toml_account_keys, parent_code};
+ghost use Rattle.cfg_model.specs.Elements.{toml_code, toml_name, toml_account_name, toml_nature};
 ghost use Rattle.cfg_model.specs.Elements.{is_printable as printable};
-ghost use Rattle.cfg_model.specs.Walk.{of_shape, shape_or, text_of, text_list};
+ghost use Rattle.cfg_model.specs.Walk.{of_shape, shape_or, toml_text, toml_texts};
 
 use crate::element::elements_of;
-use crate::walk::{find, first_unknown, flag_at, text_at};
+use crate::walk::{find, first_unknown_key, flag_at, text_at};
 use reg_base::{Code, List, Name, Text};
 use std::alloc::{AllocError, Global};
 use toml::{Table, Value};
 
-/// The longest name of an account, in bytes.
+// The longest name of an account, in bytes.
 const LONGEST_NAME: usize = 32;
 
-/// The keys of an account's table.
+// The keys of an account's table.
 const ACCOUNT_KEYS: [&str; 6] = ["code", "name", "kind", "off", "parent", "extras"];
 
 /// An account of a ledger.
@@ -45,23 +45,23 @@ pub enum Nature {
 }
 
 impl Account {
-    /// The account that a table holds, where the table is of the right shape.
-    #[tactic(auto, unfolding(crate::specs::Accounts::account_of))]
+    // The account that a table holds, where the table is of the right shape.
+    #[tactic(auto, unfolding(crate::specs::Accounts::toml_account))]
     pub(crate) fn from_value(alloc: Global, value: &Value) -> Result<Option<Account>, AllocError>
-        ensures { IfOk result (λ found. found ≡ account_of (view value.now)) }
+        ensures { IfOk result (λ found. found ≡ toml_account (view value.now)) }
     {
         let Some(keys) = value.as_table() else {
             return Ok(None);
         };
-        if first_unknown(keys, &ACCOUNT_KEYS).is_some() {
+        if first_unknown_key(keys, &ACCOUNT_KEYS).is_some() {
             return Ok(None);
         }
         Account::from_keys(alloc, keys)
     }
 
-    #[tactic(auto, unfolding(crate::specs::Accounts::account_of_keys))]
+    #[tactic(auto, unfolding(crate::specs::Accounts::toml_account_keys))]
     fn from_keys(alloc: Global, keys: &Table) -> Result<Option<Account>, AllocError>
-        ensures { IfOk result (λ found. found ≡ account_of_keys (table_view keys.now)) }
+        ensures { IfOk result (λ found. found ≡ toml_account_keys (table_view keys.now)) }
     {
         let Some(code) = code_at(keys) else {
             return Ok(None);
@@ -93,14 +93,15 @@ impl Account {
 }
 
 fn code_at(keys: &Table) -> Option<Code>
-    ensures { result ≡ of_shape (text_of code_of) (codes "code") (table_view keys.now) }
+    ensures { result ≡ of_shape (toml_text toml_code) (codes "code") (table_view keys.now) }
 {
     Code::parse(text_at(keys, "code")?)
 }
 
-#[tactic(auto, unfolding(crate::specs::Elements::account_name_of))]
+#[tactic(auto, unfolding(crate::specs::Elements::toml_account_name))]
 fn name_at(keys: &Table) -> Option<&str>
-    ensures { let found = of_shape (text_of account_name_of) (codes "name") (table_view keys.now) in
+    ensures { let keys = table_view keys.now in
+        let found = of_shape (toml_text toml_account_name) (codes "name") keys in
         option_map (λ n. n.now) result ≡ found }
 {
     let name = text_at(keys, "name")?;
@@ -124,14 +125,14 @@ fn is_printable(byte: u8) -> bool
 }
 
 fn nature_at(keys: &Table) -> Option<Nature>
-    ensures { result ≡ of_shape (text_of nature_of) (codes "kind") (table_view keys.now) }
+    ensures { result ≡ of_shape (toml_text toml_nature) (codes "kind") (table_view keys.now) }
 {
     parse_nature(text_at(keys, "kind")?)
 }
 
-#[tactic(auto, unfolding(crate::specs::Elements::nature_of))]
+#[tactic(auto, unfolding(crate::specs::Elements::toml_nature))]
 fn parse_nature(word: &str) -> Option<Nature>
-    ensures { result ≡ nature_of word.now }
+    ensures { result ≡ toml_nature word.now }
 {
     match word {
         "active" => Some(Nature::Active),
@@ -154,7 +155,7 @@ fn parent_at(keys: &Table) -> Option<Option<Code>>
 
 fn extras_at(alloc: Global, keys: &Table) -> Result<Option<List<Name>>, AllocError>
     ensures { let found = get_member (codes "extras") (table_view keys.now) in
-        IfOk result (λ extras. extras ≡ shape_or (text_list name_of) [] found) }
+        IfOk result (λ extras. extras ≡ shape_or (toml_texts toml_name) [] found) }
 {
     match find(keys, "extras") {
         Some(value) => elements_of(alloc, value),

@@ -8,12 +8,12 @@ ghost use Rattle.reg_base.specs.Results.{Gives, GivesAs, some_or};
 ghost use Rattle.cfg_model.specs.declared.fault.CfgFault.TheVariants.{Memory, Field};
 ghost use Rattle.cfg_model.specs.Places.{account_at as at_code};
 ghost use Rattle.cfg_model.specs.Words.{is_one_of, key_path};
-ghost use Rattle.cfg_model.specs.Walk.{of_shape, list_of, each_item};
-ghost use Rattle.cfg_model.specs.Accounts.{read_accounts, account_of, each_checked, each_once};
+ghost use Rattle.cfg_model.specs.Walk.{of_shape, toml_list, toml_each};
+ghost use Rattle.cfg_model.specs.Accounts.{read_accounts, toml_account, each_checked, each_once};
+ghost use Rattle.cfg_model.specs.Accounts.{check_accounts, check_parents};
 ghost use Rattle.cfg_model.specs.Accounts.{parent_known, has_known_parent, has_parents_off};
 ghost use Rattle.cfg_model.specs.Accounts.{few_extras as few_extras_at, agrees_in_off as agrees};
 ghost use Rattle.cfg_model.specs.Accounts.{put_account, by_code as by_code_of};
-ghost use Rattle.cfg_model.specs.AccountChecks.{accounts_checked, parents_checked};
 ghost use Rattle.cfg_model.specs.AccountMaps.{AreKeyed, values_of, place_at, LeadsToPlaces};
 
 use crate::element::distinct;
@@ -31,8 +31,8 @@ pub const ACCOUNT_LIMIT: usize = 512;
 /// How many extras an account has at the most.
 pub const EXTRA_LIMIT: usize = 3;
 
-/// The accounts of a ledger, in byte order of codes.
-#[tactic(auto, using(crate::proofs::AccountSteps::read_accounts_in_steps))]
+// The accounts of a ledger, in byte order of codes.
+#[tactic(auto, unfolding(crate::specs::Accounts::read_accounts))]
 pub(crate) fn read_accounts(alloc: Global, entry: &Entry) -> Result<List<Account>, CfgFault>
     requires { entry.now.group.now ≡ codes "ledger" }
     ensures { let keys = table_view entry.now.keys.now in
@@ -44,20 +44,20 @@ pub(crate) fn read_accounts(alloc: Global, entry: &Entry) -> Result<List<Account
     Ok(by_code(alloc, accounts)?)
 }
 
-/// Refuses accounts that do not fit each other, or have too many extras.
-#[tactic(auto, unfolding(crate::specs::AccountChecks::accounts_checked))]
+// Refuses accounts that do not fit each other, or have too many extras.
+#[tactic(auto, unfolding(crate::specs::Accounts::check_accounts))]
 fn check_accounts(alloc: Global, entry: &Entry, accounts: &[Account]) -> Result<(), CfgFault>
     requires { entry.now.group.now ≡ codes "ledger" }
     ensures { let path = key_path (codes "ledger") entry.now.name.now (codes "accounts") in
-        Gives Memory result (accounts_checked path accounts.now) }
+        Gives Memory result (check_accounts path accounts.now) }
 {
     few_extras(alloc, entry, accounts)?;
     let places = places_of(alloc, accounts)?;
     check_parents(alloc, entry, accounts, &places)
 }
 
-/// Refuses a parent that is no account, that leads back, or that differs in `off`.
-#[tactic(auto, unfolding(crate::specs::AccountChecks::parents_checked))]
+// Refuses a parent that is no account, that leads back, or that differs in `off`.
+#[tactic(auto, unfolding(crate::specs::Accounts::check_parents))]
 fn check_parents(
     alloc: Global,
     entry: &Entry,
@@ -67,19 +67,19 @@ fn check_parents(
     requires group { entry.now.group.now ≡ codes "ledger" }
     requires places { LeadsToPlaces places.now.entries accounts.now }
     ensures { let path = key_path (codes "ledger") entry.now.name.now (codes "accounts") in
-        Gives Memory result (parents_checked path accounts.now) }
+        Gives Memory result (check_parents path accounts.now) }
 {
     all_parents_known(alloc, accounts, places)?;
     none_circular(alloc, accounts, places)?;
     all_agree_in_off(alloc, entry, accounts, places)
 }
 
-/// The accounts that the list under the key holds, in its order.
+// The accounts that the list under the key holds, in its order.
 fn accounts_at(alloc: Global, entry: &Entry) -> Result<List<Account>, CfgFault>
     requires { entry.now.group.now ≡ codes "ledger" }
     ensures { let path = key_path (codes "ledger") entry.now.name.now (codes "accounts") in
         let keys = table_view entry.now.keys.now in
-        let found = of_shape (list_of account_of) (codes "accounts") keys in
+        let found = of_shape (toml_list toml_account) (codes "accounts") keys in
         Gives Memory result (some_or found (Field path)) }
 {
     let Some(value) = entry.get("accounts") else {
@@ -95,7 +95,7 @@ fn accounts_at(alloc: Global, entry: &Entry) -> Result<List<Account>, CfgFault>
 }
 
 fn accounts_of(alloc: Global, array: &Array) -> Result<Option<List<Account>>, AllocError>
-    ensures { IfOk result (λ found. found ≡ each_item account_of (array_view array.now)) }
+    ensures { IfOk result (λ found. found ≡ toml_each toml_account (array_view array.now)) }
 {
     let mut found = Vec::new(alloc);
     'items: for item in array {
@@ -107,7 +107,7 @@ fn accounts_of(alloc: Global, array: &Array) -> Result<Option<List<Account>>, Al
     Ok(Some(List::from_vec(found)))
 }
 
-/// Refuses an account with too many extras.
+// Refuses an account with too many extras.
 #[tactic(auto, unfolding(crate::specs::Accounts::each_checked))]
 fn few_extras(alloc: Global, entry: &Entry, accounts: &[Account]) -> Result<(), CfgFault>
     requires { entry.now.group.now ≡ codes "ledger" }
@@ -120,8 +120,8 @@ fn few_extras(alloc: Global, entry: &Entry, accounts: &[Account]) -> Result<(), 
     Ok(())
 }
 
-/// The places of accounts by their codes; refuses a code that stands before, and an extra that
-/// stands twice.
+// The places of accounts by their codes; refuses a code that stands before, and an extra that
+// stands twice.
 #[tactic(auto, unfolding(crate::specs::Accounts::each_once))]
 fn places_of(alloc: Global, accounts: &[Account]) -> Result<BTreeMap<Code, usize>, CfgFault>
     ensures once { GivesAs Memory (λ _. tt) result (each_once [] accounts.now) }
@@ -138,7 +138,7 @@ fn places_of(alloc: Global, accounts: &[Account]) -> Result<BTreeMap<Code, usize
     Ok(places)
 }
 
-/// Whether one of the accounts that the map leads to has the code.
+// Whether one of the accounts that the map leads to has the code.
 fn has_code(places: &BTreeMap<Code, usize>, code: &Code) -> bool
     ensures { (accounts : List Account) → LeadsToPlaces places.now.entries accounts
         → result ≡ is_one_of (map (λ a. a.code) accounts) code.now }
@@ -146,8 +146,8 @@ fn has_code(places: &BTreeMap<Code, usize>, code: &Code) -> bool
     place_of(places, code).is_some()
 }
 
-/// The place that the map has under a code.
-pub(crate) fn place_of(places: &BTreeMap<Code, usize>, code: &Code) -> Option<usize>
+// The place that the map has under a code.
+fn place_of(places: &BTreeMap<Code, usize>, code: &Code) -> Option<usize>
     ensures { result ≡ place_at code.now places.now.entries }
 {
     places.get(code).copied()
@@ -161,8 +161,8 @@ fn put_place(places: &mut BTreeMap<Code, usize>, code: Code, place: usize) -> Re
     Ok(())
 }
 
-/// The account of a code.
-fn account_at<'a>(
+// The account of a code.
+pub(crate) fn account_at<'a>(
     accounts: &'a [Account],
     places: &BTreeMap<Code, usize>,
     code: &Code,
@@ -173,7 +173,7 @@ fn account_at<'a>(
     accounts.get(place_of(places, code)?)
 }
 
-/// Refuses a parent that is no account.
+// Refuses a parent that is no account.
 #[tactic(auto, unfolding(crate::specs::Accounts::each_checked))]
 fn all_parents_known(
     alloc: Global,
@@ -208,7 +208,7 @@ fn check_parent(
     Ok(())
 }
 
-/// Refuses an account that is off-balance where its parent is not, or the other way round.
+// Refuses an account that is off-balance where its parent is not, or the other way round.
 #[tactic(auto, unfolding(crate::specs::Accounts::each_checked))]
 fn all_agree_in_off(
     alloc: Global,
@@ -243,7 +243,7 @@ fn agrees_in_off(accounts: &[Account], places: &BTreeMap<Code, usize>, account: 
     }
 }
 
-/// The accounts in byte order of codes.
+// The accounts in byte order of codes.
 fn by_code(alloc: Global, accounts: List<Account>) -> Result<List<Account>, AllocError>
     ensures { IfOk result (λ sorted. sorted ≡ by_code_of accounts) }
 {
@@ -254,7 +254,7 @@ fn by_code(alloc: Global, accounts: List<Account>) -> Result<List<Account>, Allo
     accounts_in_order(alloc, by_code)
 }
 
-/// Puts an account under its code.
+// Puts an account under its code.
 fn enter(by_code: &mut BTreeMap<Code, Account>, account: Account) -> Result<(), AllocError>
     requires { AreKeyed by_code.old.entries }
     ensures values { IfOk result (λ _. values_of by_code.new.entries

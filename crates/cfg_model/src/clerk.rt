@@ -3,7 +3,7 @@ ghost use Rattle.std.specs.Prelude.{◌≡◌, codes, false};
 ghost use Rattle.toml.specs.View.{view, table_view};
 ghost use Rattle.reg_base.specs.Results.{Gives};
 ghost use Rattle.cfg_model.specs.declared.fault.CfgFault.TheVariants.{Memory};
-ghost use Rattle.cfg_model.specs.Elements.{right_of, right_word};
+ghost use Rattle.cfg_model.specs.Elements.{toml_right, right_word};
 ghost use Rattle.cfg_model.specs.Clerks.{read_clerk, read_rights};
 
 use crate::element::{Element, all_distinct};
@@ -50,13 +50,13 @@ impl Right {
 }
 
 impl Element for Right {
-    ghost reads = { right_of };
+    ghost reads = { toml_right };
 
     ghost label_of = { right_word };
 
     ghost sole = { λ r. false };
 
-    #[tactic(auto, unfolding(crate::specs::Elements::right_of))]
+    #[tactic(auto, unfolding(crate::specs::Elements::toml_right))]
     fn parse(text: &str) -> Option<Right> {
         match text {
             "write" => Some(Right::Write),
@@ -81,7 +81,7 @@ impl Element for Right {
 impl FromEntry for Clerk {
     ghost reads = { λ config. read_clerk };
 
-    ghost name_of = { λ clerk. clerk.name };
+    ghost entry_name = { λ clerk. clerk.name };
 
     #[tactic(auto, unfolding(crate::specs::Clerks::read_clerk))]
     fn read(alloc: Global, _config: &Config, name: &str, value: &Value) -> Result<Clerk, CfgFault> {

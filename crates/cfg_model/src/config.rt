@@ -5,7 +5,7 @@ ghost use Rattle.reg_base.specs.Results.{Gives, GivesAs, some_or};
 ghost use Rattle.cfg_model.specs.declared.fault.CfgFault.TheVariants.{Memory, NotToml};
 ghost use Rattle.cfg_model.specs.Limits.{IsWithinLimits};
 ghost use Rattle.cfg_model.specs.Places.{clerk_place, register_place};
-ghost use Rattle.cfg_model.specs.Reading.{read_config, config_of, document};
+ghost use Rattle.cfg_model.specs.Reading.{read_config, config_of, toml_document};
 ghost use Rattle.cfg_model.specs.Resolving.{HasNamesInOrder, IsInOrder, NamesResolve};
 ghost use Rattle.cfg_model.specs.Walk.{known_keys};
 ghost use Rattle.cfg_model.specs.Words.{group_keys};
@@ -33,7 +33,7 @@ pub const SEQUENCE_LIMIT: usize = 16;
 /// How many clerks a configuration has at the most.
 pub const CLERK_LIMIT: usize = 64;
 
-/// The keys of the top level, in the order in which their groups are read.
+// The keys of the top level, in the order in which their groups are read.
 const GROUP_KEYS: [&str; 5] = ["register", "ledger", "document", "sequence", "clerk"];
 
 /// What a desk is set up for, each list in byte order of names.
@@ -75,7 +75,7 @@ impl Config {
         config_of(alloc, &top)
     }
 
-    /// Reads the groups of a table whose keys are known, each given those before it.
+    // Reads the groups of a table whose keys are known, each given those before it.
     #[tactic(auto, unfolding(crate::specs::Reading::config_of))]
     fn read_groups(&mut self, alloc: Global, top: &Table) -> Result<(), CfgFault>
         requires { let keys = table_view top.now in known_keys group_keys keys ≡ Accepted keys }
@@ -108,9 +108,10 @@ impl Config {
     }
 }
 
-#[tactic(auto, unfolding(crate::specs::Reading::document))]
+#[tactic(auto, unfolding(crate::specs::Reading::toml_document))]
 fn read_document(alloc: Global, bytes: &[u8]) -> Result<Table, CfgFault>
-    ensures { GivesAs Memory (λ t. table_view t) result (some_or (document bytes.now) NotToml) }
+    ensures { let top = some_or (toml_document bytes.now) NotToml in
+        GivesAs Memory (λ t. table_view t) result top }
 {
     let Ok(text) = str::from_utf8(bytes) else {
         return Err(CfgFault::NotToml);

@@ -5,10 +5,10 @@ ghost use Rattle.std.specs.Str.{bytes_eq};
 ghost use Rattle.toml.specs.View.{array_view, table_view, view};
 ghost use Rattle.reg_base.specs.Results.{Gives, GivesAs, some_or};
 ghost use Rattle.cfg_model.specs.declared.fault.CfgFault.TheVariants.{Memory, Field};
-ghost use Rattle.cfg_model.specs.Elements.{name_of};
+ghost use Rattle.cfg_model.specs.Elements.{toml_name};
 ghost use Rattle.cfg_model.specs.Labels.{has_label};
 ghost use Rattle.cfg_model.specs.Words.{key_path};
-ghost use Rattle.cfg_model.specs.Walk.{of_shape, each_item, text_of, text_list, distinct};
+ghost use Rattle.cfg_model.specs.Walk.{of_shape, toml_each, toml_text, toml_texts, distinct};
 ghost use Rattle.cfg_model.specs.Walk.{first_second};
 
 use crate::CfgFault;
@@ -19,7 +19,7 @@ use std::collections::BTreeSet;
 use toml::Value;
 use toml::value::Array;
 
-/// What a text in a list spells.
+// What a text in a list spells.
 pub(crate) trait Element: Drop {
     ghost reads: { List ℕ → Option Self };
 
@@ -30,11 +30,11 @@ pub(crate) trait Element: Drop {
     fn parse(text: &str) -> Option<Self>
         ensures { result ≡ reads text.now };
 
-    /// What no two elements of a list share.
+    // What no two elements of a list share.
     fn label(&self) -> &str
         ensures { result.now ≡ label_of self.now };
 
-    /// Whether it is of the sort that stands in a list once at the most.
+    // Whether it is of the sort that stands in a list once at the most.
     fn is_sole(&self) -> bool
         ensures { result ≡ sole self.now };
 }
@@ -42,7 +42,7 @@ pub(crate) trait Element: Drop {
 impl Element for Name {
     ghost use Rattle.std.specs.Prelude.{false};
 
-    ghost reads = { name_of };
+    ghost reads = { toml_name };
 
     ghost label_of = { λ name. name };
 
@@ -62,10 +62,10 @@ impl Element for Name {
 }
 
 impl Entry<'_> {
-    /// The elements that the list of texts under a key spells.
+    // The elements that the list of texts under a key spells.
     pub(crate) fn elements<E: Element>(&self, alloc: Global, key: &str) -> Result<List<E>, CfgFault>
         ensures { let path = key_path self.now.group.now self.now.name.now key.now in
-            let found = of_shape (text_list E.reads) key.now (table_view self.now.keys.now) in
+            let found = of_shape (toml_texts E.reads) key.now (table_view self.now.keys.now) in
             Gives Memory result (some_or found (Field path)) }
     {
         let Some(value) = self.get(key) else {
@@ -78,12 +78,12 @@ impl Entry<'_> {
     }
 }
 
-/// What a list of texts spells.
+// What a list of texts spells.
 pub(crate) fn elements_of<E: Element>(
     alloc: Global,
     value: &Value,
 ) -> Result<Option<List<E>>, AllocError>
-    ensures { IfOk result (λ found. found ≡ text_list E.reads (view value.now)) }
+    ensures { IfOk result (λ found. found ≡ toml_texts E.reads (view value.now)) }
 {
     match value.as_array() {
         Some(array) => spelled(alloc, array),
@@ -91,9 +91,9 @@ pub(crate) fn elements_of<E: Element>(
     }
 }
 
-/// What the texts of a list spell, where each is a text and spells an element.
+// What the texts of a list spell, where each is a text and spells an element.
 fn spelled<E: Element>(alloc: Global, array: &Array) -> Result<Option<List<E>>, AllocError>
-    ensures { IfOk result (λ found. found ≡ each_item (text_of E.reads) (array_view array.now)) }
+    ensures { IfOk result (λ found. found ≡ toml_each (toml_text E.reads) (array_view array.now)) }
 {
     let mut found = Vec::new(alloc);
     'items: for item in array {
@@ -105,14 +105,14 @@ fn spelled<E: Element>(alloc: Global, array: &Array) -> Result<Option<List<E>>, 
     Ok(Some(List::from_vec(found)))
 }
 
-/// What a text spells.
+// What a text spells.
 fn element_of<E: Element>(value: &Value) -> Option<E>
-    ensures { result ≡ text_of E.reads (view value.now) }
+    ensures { result ≡ toml_text E.reads (view value.now) }
 {
     E::parse(value.as_str()?)
 }
 
-/// The same list, in which no element stands twice.
+// The same list, in which no element stands twice.
 pub(crate) fn all_distinct<E: Element>(alloc: Global, found: List<E>) -> Result<List<E>, CfgFault>
     ensures { Gives Memory result (distinct E.label_of E.sole found) }
 {
@@ -120,7 +120,7 @@ pub(crate) fn all_distinct<E: Element>(alloc: Global, found: List<E>) -> Result<
     Ok(found)
 }
 
-/// Refuses a list in which an element stands twice.
+// Refuses a list in which an element stands twice.
 pub(crate) fn distinct<E: Element>(alloc: Global, found: &[E]) -> Result<(), CfgFault>
     ensures { GivesAs Memory (λ _. found.now) result (distinct E.label_of E.sole found.now) }
 {
@@ -130,7 +130,7 @@ pub(crate) fn distinct<E: Element>(alloc: Global, found: &[E]) -> Result<(), Cfg
     }
 }
 
-/// The first element that may not stand behind those before it.
+// The first element that may not stand behind those before it.
 fn first_second<E: Element>(alloc: Global, found: &[E]) -> Result<Option<&E>, AllocError>
     ensures { let second = first_second E.label_of E.sole [] found.now in
         IfOk result (λ told. option_map (λ e. e.now) told ≡ second) }
@@ -147,7 +147,7 @@ fn first_second<E: Element>(alloc: Global, found: &[E]) -> Result<Option<&E>, Al
     Ok(None)
 }
 
-/// Puts a label among those that are kept, and says whether it is a new one.
+// Puts a label among those that are kept, and says whether it is a new one.
 fn put_label<'a>(labels: &mut BTreeSet<&'a str>, label: &'a str) -> Result<bool, AllocError>
     ensures new { IfOk result (λ is_new. is_new ≡ not (has_label label.now labels.old.keys)) }
     ensures labels { IfOk result (λ _. (q : List ℕ) → has_label q labels.new.keys

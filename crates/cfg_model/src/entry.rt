@@ -106,7 +106,7 @@ impl Chart {
     }
 }
 
-/// Whether this is the code of the account's parent.
+// Whether this is the code of the account's parent.
 fn has_parent(account: &Account, code: &Code) -> bool
     ensures { result ≡ is_parent code.now account.now }
 {
@@ -116,7 +116,7 @@ fn has_parent(account: &Account, code: &Code) -> bool
     }
 }
 
-/// The first account of a code.
+// The first account of a code.
 #[tactic(auto, unfolding(crate::specs::Places::account_at))]
 fn account_at<'a>(accounts: &'a [Account], code: &Code) -> Option<&'a Account>
     ensures { option_map (λ a. a.now) result ≡ at_code code.now accounts.now }

@@ -1,9 +1,9 @@
 //! Why a configuration is refused.
-ghost use Rattle.std.specs.Prelude.{◌≡◌, ◌++◌, IfOk, string_bytes};
-ghost use Rattle.cfg_model.specs.FaultTexts.{fault_text, count_text};
+ghost use Rattle.std.specs.Prelude.{◌≡◌, IfOk, string_bytes};
+ghost use Rattle.cfg_model.specs.FaultTexts.{config_fault_text, count_text};
 ghost use Rattle.cfg_model.specs.declared.fault.CfgFault.TheVariants.{Memory as WantOfMemory};
 
-use reg_base::{Memory, Text};
+use reg_base::{Memory, Text, join_texts, string_of};
 use std::alloc::{AllocError, AllocFailed, Global};
 
 /// The first fault of a configuration file.
@@ -25,34 +25,22 @@ pub enum CfgFault {
 
 impl CfgFault {
     /// The text that a user reads: number, name and fields, as `2 Field register.stock.kind`.
-    #[tactic(auto, unfolding(crate::specs::FaultTexts::fault_text))]
+    #[tactic(auto, unfolding(crate::specs::FaultTexts::config_fault_text))]
     pub fn text(&self, alloc: Global) -> Result<String, Memory>
-        ensures { IfOk result (λ t. string_bytes t ≡ fault_text self.now) }
+        ensures { IfOk result (λ t. string_bytes t ≡ config_fault_text self.now) }
     {
         match self {
-            CfgFault::NotToml => copied(alloc, "1 NotToml"),
-            CfgFault::Field { path } => joined(alloc, "2 Field ", path.as_str()),
-            CfgFault::Twice { name } => joined(alloc, "3 Twice ", name.as_str()),
-            CfgFault::Unknown { name } => joined(alloc, "4 Unknown ", name.as_str()),
-            CfgFault::Count { what, number } => counted(alloc, what.as_str(), *number),
-            CfgFault::Memory => copied(alloc, "0 Memory"),
+            CfgFault::NotToml => string_of(alloc, "1 NotToml"),
+            CfgFault::Field { path } => join_texts(alloc, "2 Field ", path.as_str()),
+            CfgFault::Twice { name } => join_texts(alloc, "3 Twice ", name.as_str()),
+            CfgFault::Unknown { name } => join_texts(alloc, "4 Unknown ", name.as_str()),
+            CfgFault::Count { what, number } => count_string(alloc, what.as_str(), *number),
+            CfgFault::Memory => string_of(alloc, "0 Memory"),
         }
     }
 }
 
-fn copied(alloc: Global, text: &str) -> Result<String, Memory>
-    ensures { IfOk result (λ t. string_bytes t ≡ text.now) }
-{
-    Ok(String::from_str(alloc, text)?)
-}
-
-fn joined(alloc: Global, front: &str, text: &str) -> Result<String, Memory>
-    ensures { IfOk result (λ t. string_bytes t ≡ front.now ++ text.now) }
-{
-    Ok(format!(in alloc; "{front}{text}")?)
-}
-
-fn counted(alloc: Global, what: &str, number: usize) -> Result<String, Memory>
+fn count_string(alloc: Global, what: &str, number: usize) -> Result<String, Memory>
     ensures { IfOk result (λ t. string_bytes t ≡ count_text what.now number) }
 {
     Ok(format!(in alloc; "5 Count {what} {number}")?)

@@ -15,19 +15,19 @@ use reg_base::List;
 use std::alloc::Global;
 use toml::{Table, Value};
 
-/// What an entry of a group holds.
+// What an entry of a group holds.
 pub(crate) trait FromEntry: Drop {
     ghost reads: { Config → List ℕ → Data → Result Self CfgFault };
 
-    ghost name_of: { Self → List ℕ };
+    ghost entry_name: { Self → List ℕ };
 
-    /// Reads an entry, given the groups that were read before.
+    // Reads an entry, given the groups that were read before.
     fn read(alloc: Global, config: &Config, name: &str, value: &Value) -> Result<Self, CfgFault>
         ensures read { Gives Memory result (reads config.now name.now (view value.now)) }
-        ensures named { IfOk result (λ x. name_of x ≡ name.now) };
+        ensures named { IfOk result (λ x. entry_name x ≡ name.now) };
 }
 
-/// The entries of a group of a file, given the groups that were read before.
+// The entries of a group of a file, given the groups that were read before.
 #[tactic(auto, unfolding(crate::specs::Walk::read_group, crate::specs::Walk::each_entry))]
 pub(crate) fn read_group<E: FromEntry>(
     alloc: Global,
@@ -38,7 +38,7 @@ pub(crate) fn read_group<E: FromEntry>(
 ) -> Result<List<E>, CfgFault>
     ensures read { let found = table_view top.now in
         Gives Memory result (group_of group.now limit (E.reads config.now) found) }
-    ensures in_order { IfOk result (λ xs. AreAscending (map E.name_of xs)) }
+    ensures in_order { IfOk result (λ xs. AreAscending (map E.entry_name xs)) }
 {
     match group_entries(alloc, top, group, limit)? {
         Some(entries) => {
@@ -49,7 +49,7 @@ pub(crate) fn read_group<E: FromEntry>(
     }
 }
 
-/// The keys of a table stand in byte order, each once.
+// The keys of a table stand in byte order, each once.
 fn keys_ascend(entries: &Table)
     ensures { AreAscending (member_keys (table_view entries.now)) }
 {
@@ -63,7 +63,7 @@ fn each_entry<E: FromEntry>(
     config: &Config,
 ) -> Result<List<E>, CfgFault>
     ensures read { Gives Memory result (each_of (E.reads config.now) (table_view entries.now)) }
-    ensures names { IfOk result (λ xs. map E.name_of xs ≡ member_keys (table_view entries.now)) }
+    ensures names { IfOk result (λ xs. map E.entry_name xs ≡ member_keys (table_view entries.now)) }
 {
     let mut found = Vec::new(alloc);
     'entries: for (name, value) in entries.iter() {

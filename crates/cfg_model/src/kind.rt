@@ -4,9 +4,8 @@ ghost use Rattle.toml.specs.Data.{as_str};
 ghost use Rattle.toml.specs.View.{view, table_view};
 ghost use Rattle.reg_base.specs.Results.{Gives, some_or};
 ghost use Rattle.cfg_model.specs.declared.fault.CfgFault.TheVariants.{Memory, Field as AtPath};
-ghost use Rattle.cfg_model.specs.Elements.{field_of, field_scale_of};
-ghost use Rattle.cfg_model.specs.EntryParts.{kind_of};
-ghost use Rattle.cfg_model.specs.Kinds.{read_kind, read_fields};
+ghost use Rattle.cfg_model.specs.Elements.{toml_field, toml_field_scale};
+ghost use Rattle.cfg_model.specs.Kinds.{read_kind, kind_of, read_fields};
 ghost use Rattle.cfg_model.specs.Sequences.{has_code_field};
 ghost use Rattle.cfg_model.specs.Walk.{of_shape};
 ghost use Rattle.cfg_model.specs.Words.{key_path};
@@ -54,13 +53,13 @@ impl Kind {
 }
 
 impl Element for Field {
-    ghost reads = { field_of };
+    ghost reads = { toml_field };
 
     ghost label_of = { λ f. f.name };
 
     ghost sole = { λ f. false };
 
-    #[tactic(auto, unfolding(crate::specs::Elements::field_of))]
+    #[tactic(auto, unfolding(crate::specs::Elements::toml_field))]
     fn parse(text: &str) -> Option<Field> {
         let (name, sort) = text.split_once(':')?;
         let name = Name::parse(name)?;
@@ -77,10 +76,10 @@ impl Element for Field {
     }
 }
 
-/// The scale of a field's numbers, or none for codes.
-#[tactic(auto, unfolding(crate::specs::Elements::field_scale_of))]
+// The scale of a field's numbers, or none for codes.
+#[tactic(auto, unfolding(crate::specs::Elements::toml_field_scale))]
 fn parse_field_scale(word: &str) -> Option<Option<Scale>>
-    ensures { result ≡ field_scale_of word.now }
+    ensures { result ≡ toml_field_scale word.now }
 {
     if word == "code" {
         return Some(None);
@@ -92,7 +91,7 @@ fn parse_field_scale(word: &str) -> Option<Option<Scale>>
 impl FromEntry for Kind {
     ghost reads = { λ config. read_kind };
 
-    ghost name_of = { λ kind. kind.name };
+    ghost entry_name = { λ kind. kind.name };
 
     #[tactic(auto, unfolding(crate::specs::Kinds::read_kind))]
     fn read(alloc: Global, _config: &Config, name: &str, value: &Value) -> Result<Kind, CfgFault> {
@@ -107,11 +106,12 @@ impl FromEntry for Kind {
     }
 }
 
-/// The document type that the keys of an entry say.
+// The document type that the keys of an entry say.
 fn kind_of(alloc: Global, entry: &Entry, name: Name) -> Result<Kind, CfgFault>
     requires group { entry.now.group.now ≡ codes "document" }
     requires name { name ≡ entry.now.name.now }
-    ensures read { Gives Memory result (kind_of entry.now.name.now (table_view entry.now.keys.now)) }
+    ensures read { let keys = table_view entry.now.keys.now in
+        Gives Memory result (kind_of entry.now.name.now keys) }
     ensures named { IfOk result (λ kind. kind.name ≡ name) }
 {
     let head = read_fields(alloc, entry, "head")?;

@@ -3,8 +3,7 @@ ghost use Rattle.std.specs.Prelude.{◌≡◌, codes, IfOk};
 ghost use Rattle.toml.specs.View.{view, table_view};
 ghost use Rattle.reg_base.specs.Results.{Gives};
 ghost use Rattle.cfg_model.specs.declared.fault.CfgFault.TheVariants.{Memory};
-ghost use Rattle.cfg_model.specs.EntryParts.{ledger_of};
-ghost use Rattle.cfg_model.specs.Ledgers.{read_ledger, read_scale, scale_number};
+ghost use Rattle.cfg_model.specs.Ledgers.{read_ledger, ledger_of, read_scale, scale_number};
 
 use crate::accounts::read_accounts;
 use crate::group::FromEntry;
@@ -28,7 +27,7 @@ pub struct Chart {
 impl FromEntry for Chart {
     ghost reads = { λ config. read_ledger config.registers };
 
-    ghost name_of = { λ chart. chart.name };
+    ghost entry_name = { λ chart. chart.name };
 
     #[tactic(auto, unfolding(crate::specs::Ledgers::read_ledger))]
     fn read(alloc: Global, config: &Config, name: &str, value: &Value) -> Result<Chart, CfgFault> {
@@ -44,7 +43,7 @@ impl FromEntry for Chart {
     }
 }
 
-/// The ledger that the keys of an entry say.
+// The ledger that the keys of an entry say.
 fn chart_of(alloc: Global, entry: &Entry, name: Name) -> Result<Chart, CfgFault>
     requires group { entry.now.group.now ≡ codes "ledger" }
     requires name { name ≡ entry.now.name.now }

@@ -19,6 +19,7 @@ mod entry;
 mod fault;
 mod group;
 mod kind;
+mod laws;
 mod ledger;
 mod parents;
 mod register;
@@ -34,6 +35,7 @@ pub use config::{
 pub use entry::check_entry;
 pub use fault::CfgFault;
 pub use kind::{FIELD_LIMIT, Field, Kind};
+pub use laws::table_keys_ascend;
 pub use ledger::Chart;
 pub use reg_base::EntryFault;
 pub use register::{DIMENSION_LIMIT, Dimension, RESOURCE_LIMIT, Register, Resource};

@@ -3,9 +3,9 @@ ghost use Rattle.std.specs.Prelude.{◌≡◌, codes, false, IfOk};
 ghost use Rattle.toml.specs.View.{view, table_view};
 ghost use Rattle.reg_base.specs.Results.{Gives};
 ghost use Rattle.cfg_model.specs.declared.fault.CfgFault.TheVariants.{Memory};
-ghost use Rattle.cfg_model.specs.Elements.{dimension_of, lot_of, resource_of, scale_of};
-ghost use Rattle.cfg_model.specs.EntryParts.{register_of};
-ghost use Rattle.cfg_model.specs.Registers.{read_register, read_balance, balance_of};
+ghost use Rattle.cfg_model.specs.Elements.{toml_dimension, toml_lot, toml_resource, toml_scale};
+ghost use Rattle.cfg_model.specs.Registers.{read_register, register_of, read_balance};
+ghost use Rattle.cfg_model.specs.Registers.{keeps_balances};
 ghost use Rattle.cfg_model.specs.Registers.{read_dimensions, read_resources};
 ghost use Rattle.cfg_model.specs.Sequences.{has_codes};
 
@@ -65,13 +65,13 @@ impl Register {
 }
 
 impl Element for Dimension {
-    ghost reads = { dimension_of };
+    ghost reads = { toml_dimension };
 
     ghost label_of = { λ d. d.name };
 
     ghost sole = { λ d. d.lot };
 
-    #[tactic(auto, unfolding(crate::specs::Elements::dimension_of))]
+    #[tactic(auto, unfolding(crate::specs::Elements::toml_dimension))]
     fn parse(text: &str) -> Option<Dimension> {
         let (name, sort) = text.split_once(':')?;
         let name = Name::parse(name)?;
@@ -89,13 +89,13 @@ impl Element for Dimension {
 }
 
 impl Element for Resource {
-    ghost reads = { resource_of };
+    ghost reads = { toml_resource };
 
     ghost label_of = { λ r. r.name };
 
     ghost sole = { λ r. false };
 
-    #[tactic(auto, unfolding(crate::specs::Elements::resource_of))]
+    #[tactic(auto, unfolding(crate::specs::Elements::toml_resource))]
     fn parse(text: &str) -> Option<Resource> {
         let (name, digit) = text.split_once(':')?;
         let name = Name::parse(name)?;
@@ -112,9 +112,9 @@ impl Element for Resource {
     }
 }
 
-#[tactic(auto, unfolding(crate::specs::Elements::lot_of))]
+#[tactic(auto, unfolding(crate::specs::Elements::toml_lot))]
 fn parse_lot(word: &str) -> Option<bool>
-    ensures { result ≡ lot_of word.now }
+    ensures { result ≡ toml_lot word.now }
 {
     match word {
         "code" => Some(false),
@@ -123,10 +123,10 @@ fn parse_lot(word: &str) -> Option<bool>
     }
 }
 
-/// The scale that one digit spells.
-#[tactic(auto, unfolding(crate::specs::Elements::scale_of))]
+// The scale that one digit spells.
+#[tactic(auto, unfolding(crate::specs::Elements::toml_scale))]
 pub(crate) fn parse_scale(text: &str) -> Option<Scale>
-    ensures { result ≡ scale_of text.now }
+    ensures { result ≡ toml_scale text.now }
 {
     match text.as_bytes() {
         [digit] if *digit >= b'0' => Scale::new(*digit - b'0'),
@@ -137,7 +137,7 @@ pub(crate) fn parse_scale(text: &str) -> Option<Scale>
 impl FromEntry for Register {
     ghost reads = { λ config. read_register };
 
-    ghost name_of = { λ register. register.name };
+    ghost entry_name = { λ register. register.name };
 
     #[tactic(auto, unfolding(crate::specs::Registers::read_register))]
     fn read(
@@ -157,7 +157,7 @@ impl FromEntry for Register {
     }
 }
 
-/// The register that the keys of an entry say.
+// The register that the keys of an entry say.
 fn register_of(alloc: Global, entry: &Entry, name: Name) -> Result<Register, CfgFault>
     requires group { entry.now.group.now ≡ codes "register" }
     requires name { name ≡ entry.now.name.now }
@@ -178,7 +178,7 @@ fn register_of(alloc: Global, entry: &Entry, name: Name) -> Result<Register, Cfg
     })
 }
 
-/// Whether the register has balances.
+// Whether the register has balances.
 #[tactic(auto, unfolding(crate::specs::Registers::read_balance))]
 fn read_balance(alloc: Global, entry: &Entry) -> Result<bool, CfgFault>
     requires { entry.now.group.now ≡ codes "register" }
@@ -194,9 +194,9 @@ fn read_balance(alloc: Global, entry: &Entry) -> Result<bool, CfgFault>
     Ok(balance)
 }
 
-#[tactic(auto, unfolding(crate::specs::Registers::balance_of))]
+#[tactic(auto, unfolding(crate::specs::Registers::keeps_balances))]
 fn parse_balance(word: &str) -> Option<bool>
-    ensures { result ≡ balance_of word.now }
+    ensures { result ≡ keeps_balances word.now }
 {
     match word {
         "balance" => Some(true),

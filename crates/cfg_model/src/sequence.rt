@@ -37,7 +37,7 @@ pub struct Sequence {
 impl FromEntry for Sequence {
     ghost reads = { λ config. read_sequence config.registers config.kinds };
 
-    ghost name_of = { λ sequence. sequence.name };
+    ghost entry_name = { λ sequence. sequence.name };
 
     #[tactic(auto, unfolding(crate::specs::Sequences::read_sequence))]
     fn read(
@@ -136,7 +136,7 @@ fn read_affecting(alloc: Global, entry: &Entry, config: &Config) -> Result<List<
     Ok(registers)
 }
 
-/// Refuses the first name that is no document type's.
+// Refuses the first name that is no document type's.
 #[tactic(auto, unfolding(crate::specs::Walk::all_known))]
 fn all_kinds(alloc: Global, kinds: &[Kind], names: &[Name]) -> Result<(), CfgFault>
     ensures { Gives Memory result (all_known (kind_known kinds.now) names.now) }
@@ -149,7 +149,7 @@ fn all_kinds(alloc: Global, kinds: &[Kind], names: &[Name]) -> Result<(), CfgFau
     Ok(())
 }
 
-/// Refuses the first name that is no register's.
+// Refuses the first name that is no register's.
 #[tactic(auto, unfolding(crate::specs::Walk::all_known))]
 fn all_registers(alloc: Global, registers: &[Register], names: &[Name]) -> Result<(), CfgFault>
     ensures { Gives Memory result (all_known (register_known registers.now) names.now) }
@@ -185,7 +185,7 @@ fn has_kind(kinds: &[Kind], name: &str) -> bool
     false
 }
 
-/// What the dimensions of a sequence have to stand in.
+// What the dimensions of a sequence have to stand in.
 #[derive(Clone, Copy)]
 struct Shared<'a> {
     config: &'a Config,
@@ -194,7 +194,7 @@ struct Shared<'a> {
 }
 
 impl Shared<'_> {
-    /// Whether the head of each type has the dimension as a code, and each register too.
+    // Whether the head of each type has the dimension as a code, and each register too.
     fn has(&self, dimension: &Name) -> bool
         ensures { result ≡ shared_by self.now.config.now.registers self.now.config.now.kinds
             self.now.kinds.now self.now.registers.now dimension.now }
@@ -214,7 +214,8 @@ impl Shared<'_> {
 
     fn all_registers_have(&self, dimension: &Name) -> bool
         ensures { let registers = self.now.config.now.registers in
-            result ≡ list_all (code_dimension_known registers dimension.now) self.now.registers.now }
+            let has = code_dimension_known registers dimension.now in
+            result ≡ list_all has self.now.registers.now }
     {
         let registers = self.config.registers.as_slice();
         self.registers
@@ -239,7 +240,7 @@ fn has_code_dimension(registers: &[Register], dimension: &Name, name: &Name) -> 
         .any(|r| r.name == *name && r.has_code_dimension(dimension))
 }
 
-/// Refuses the first dimension that is not shared by the types and registers of the sequence.
+// Refuses the first dimension that is not shared by the types and registers of the sequence.
 #[tactic(auto, unfolding(crate::specs::Sequences::all_shared, crate::specs::Walk::all_known))]
 fn all_shared(alloc: Global, shared: &Shared, dimensions: &[Name]) -> Result<(), CfgFault>
     ensures { let registers = shared.now.config.now.registers in

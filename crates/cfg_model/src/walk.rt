@@ -6,7 +6,7 @@ ghost use Rattle.reg_base.specs.Codes.{is_name};
 ghost use Rattle.reg_base.specs.Results.{Gives, GivesAs, Says};
 ghost use Rattle.cfg_model.specs.declared.fault.CfgFault.TheVariants.{Memory, Field, Twice};
 ghost use Rattle.cfg_model.specs.declared.fault.CfgFault.TheVariants.{Unknown};
-ghost use Rattle.cfg_model.specs.Words.{texts, is_one_of, first_unknown, entry_path, key_path};
+ghost use Rattle.cfg_model.specs.Words.{texts, is_one_of, first_unknown_key, entry_path, key_path};
 ghost use Rattle.cfg_model.specs.Walk.{members_or_none, group_entries, entry_keys, known_keys};
 ghost use Rattle.cfg_model.specs.Walk.{at_most, is_taken, of_shape, shape_or};
 ghost use Rattle.cfg_model.specs.Registers.{read_split};
@@ -16,10 +16,10 @@ use reg_base::{Name, Text};
 use std::alloc::{AllocError, Global};
 use toml::{Table, Value};
 
-/// Names of spaces and of one clerk, which no entry may take.
+// Names of spaces and of one clerk, which no entry may take.
 const RESERVED_NAMES: [&str; 5] = ["doc", "key", "closed", "batch", "documents"];
 
-/// An entry of a group: its name, and the table of its keys.
+// An entry of a group: its name, and the table of its keys.
 #[derive(Clone, Copy)]
 pub(crate) struct Entry<'a> {
     pub(crate) group: &'a str,
@@ -28,7 +28,7 @@ pub(crate) struct Entry<'a> {
 }
 
 impl Entry<'_> {
-    /// What a key of the entry holds.
+    // What a key of the entry holds.
     pub(crate) fn get(&self, key: &str) -> Option<&Value>
         ensures { let keys = table_view self.now.keys.now in
             option_map (λ v. view v.now) result ≡ get_member key.now keys }
@@ -36,7 +36,7 @@ impl Entry<'_> {
         find(self.keys, key)
     }
 
-    /// The text that a key of the entry holds.
+    // The text that a key of the entry holds.
     pub(crate) fn text(&self, key: &str) -> Option<&str>
         ensures { let keys = table_view self.now.keys.now in
             option_map (λ t. t.now) result ≡ of_shape as_str key.now keys }
@@ -44,7 +44,7 @@ impl Entry<'_> {
         text_at(self.keys, key)
     }
 
-    /// Whether the locks of the entry begin as splitting ones.
+    // Whether the locks of the entry begin as splitting ones.
     #[tactic(auto, unfolding(crate::specs::Registers::read_split))]
     pub(crate) fn split(&self, alloc: Global) -> Result<bool, CfgFault>
         ensures { let keys = table_view self.now.keys.now in
@@ -56,7 +56,7 @@ impl Entry<'_> {
         }
     }
 
-    /// The fault of a key that is missing or of a wrong shape.
+    // The fault of a key that is missing or of a wrong shape.
     pub(crate) fn wrong(&self, alloc: Global, key: &str) -> CfgFault
         ensures { let path = key_path self.now.group.now self.now.name.now key.now in
             Says Memory result (Field path) }
@@ -67,7 +67,7 @@ impl Entry<'_> {
         }
     }
 
-    /// Refuses more elements under a key than its limit.
+    // Refuses more elements under a key than its limit.
     pub(crate) fn at_most(
         &self,
         alloc: Global,
@@ -95,7 +95,7 @@ impl Entry<'_> {
     }
 }
 
-/// The entries of a group, or none where the file has no such group.
+// The entries of a group, or none where the file has no such group.
 #[tactic(auto, using(crate::proofs::Walks::walks), unfolding(crate::specs::Walk::group_entries))]
 pub(crate) fn group_entries<'a>(
     alloc: Global,
@@ -122,7 +122,7 @@ pub(crate) fn group_entries<'a>(
     Ok(Some(entries))
 }
 
-/// The table of an entry's keys: the entry has a name that is free, and no key that is unknown.
+// The table of an entry's keys: the entry has a name that is free, and no key that is unknown.
 #[tactic(auto, unfolding(crate::specs::Walk::entry_keys))]
 pub(crate) fn entry_keys<'a>(
     alloc: Global,
@@ -150,14 +150,14 @@ pub(crate) fn entry_keys<'a>(
     Ok(keys)
 }
 
-/// Whether the name is a reserved one, or that of a register.
+// Whether the name is a reserved one, or that of a register.
 fn is_taken(registers: &[Register], name: &str) -> bool
     ensures { result ≡ is_taken registers.now name.now }
 {
     is_one_of(&RESERVED_NAMES, name) || has_register(registers, name)
 }
 
-/// Whether there is a register of this name.
+// Whether there is a register of this name.
 pub(crate) fn has_register(registers: &[Register], name: &str) -> bool
     ensures { result ≡ is_one_of (map (λ r. r.name) registers.now) name.now }
 {
@@ -169,18 +169,18 @@ pub(crate) fn has_register(registers: &[Register], name: &str) -> bool
     false
 }
 
-/// Refuses the least key that is not known.
+// Refuses the least key that is not known.
 pub(crate) fn known_keys(alloc: Global, known: &[&str], keys: &Table) -> Result<(), CfgFault>
     ensures { let found = table_view keys.now in
         GivesAs Memory (λ _. found) result (known_keys (texts known.now) found) }
 {
-    let Some(key) = first_unknown(keys, known) else {
+    let Some(key) = first_unknown_key(keys, known) else {
         return Ok(());
     };
     Err(unknown(alloc, key))
 }
 
-/// The fault of a name that is taken.
+// The fault of a name that is taken.
 pub(crate) fn twice(alloc: Global, name: &str) -> CfgFault
     ensures { Says Memory result (Twice name.now) }
 {
@@ -190,7 +190,7 @@ pub(crate) fn twice(alloc: Global, name: &str) -> CfgFault
     }
 }
 
-/// The fault of a name that stands for nothing.
+// The fault of a name that stands for nothing.
 pub(crate) fn unknown(alloc: Global, name: &str) -> CfgFault
     ensures { Says Memory result (Unknown name.now) }
 {
@@ -220,21 +220,21 @@ fn wrong_entry(alloc: Global, group: &str, name: &str) -> CfgFault
     }
 }
 
-/// What a table has under a key.
+// What a table has under a key.
 pub(crate) fn find<'a>(table: &'a Table, key: &str) -> Option<&'a Value>
     ensures { option_map (λ v. view v.now) result ≡ get_member key.now (table_view table.now) }
 {
     table.get(key)
 }
 
-/// The text under a key.
+// The text under a key.
 pub(crate) fn text_at<'a>(table: &'a Table, key: &str) -> Option<&'a str>
     ensures { option_map (λ t. t.now) result ≡ of_shape as_str key.now (table_view table.now) }
 {
     find(table, key)?.as_str()
 }
 
-/// The flag under a key: false where the key is absent, none where it is no flag.
+// The flag under a key: false where the key is absent, none where it is no flag.
 pub(crate) fn flag_at(table: &Table, key: &str) -> Option<bool>
     ensures { let found = get_member key.now (table_view table.now) in
         result ≡ shape_or as_bool false found }
@@ -245,10 +245,10 @@ pub(crate) fn flag_at(table: &Table, key: &str) -> Option<bool>
     }
 }
 
-/// The first key of a table that is not known: tables go in byte order of keys.
-pub(crate) fn first_unknown<'a>(table: &'a Table, known: &[&str]) -> Option<&'a str>
+// The first key of a table that is not known: tables go in byte order of keys.
+pub(crate) fn first_unknown_key<'a>(table: &'a Table, known: &[&str]) -> Option<&'a str>
     ensures { let keys = table_view table.now in
-        option_map (λ k. k.now) result ≡ first_unknown (texts known.now) keys }
+        option_map (λ k. k.now) result ≡ first_unknown_key (texts known.now) keys }
 {
     'keys: for (key, _) in table.iter() {
         if !is_one_of(known, key.as_str()) {

@@ -1,7 +1,7 @@
 //! How a row of a table is asked for.
 use std::process::Abort;
 
-/// Asks that this was told of a row; none was where memory is wanted.
+// Asks that this was told of a row; none was where memory is wanted.
 pub(crate) fn expect(rt: &impl Abort, row: &str, told: Option<String>, wanted: &str) {
     match told {
         Some(told) => assert_eq!(rt; told.as_str(), wanted, "{row}"),

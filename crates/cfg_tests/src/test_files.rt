@@ -5,8 +5,8 @@ const NINE_DIMENSIONS: &str =
 
 const NINE_RESOURCES: &str = "['a:1', 'b:1', 'c:1', 'd:1', 'e:1', 'f:1', 'g:1', 'h:1', 'a:1']";
 
-/// Files, each with the text of its first fault.
-pub(crate) const FILES: [(&str, &str); 43] = [
+// Files, each with the text of its first fault.
+pub(crate) const FILES: [(&str, &str); 48] = [
     ("", "accepted"),
     ("x = 1", "4 Unknown x"),
     ("y = 1\nx = 1", "4 Unknown x"),
@@ -74,9 +74,17 @@ pub(crate) const FILES: [(&str, &str); 43] = [
     ("[register.b]\n[register.a]", "2 Field register.a.kind"),
     ("[register.s]\nsplit = true", "2 Field register.s.kind"),
     ("[register.s]\n[x]", "4 Unknown x"),
+    ("\u{feff}[clerk.a]\nrights = []", "accepted"),
+    ("\u{feff}x = 1", "4 Unknown x"),
+    ("[clerk.a]\n\u{feff}rights = []", "1 NotToml"),
+    ("[clerk.a]\r\nrights = []\r\n", "accepted"),
+    (
+        "[clerk.a]\r\nrights = [\r\n'walk',\r\n]\r\n",
+        "2 Field clerk.a.rights",
+    ),
 ];
 
-/// The kind, the dimensions and the resources of the register `s`, with its file's first fault.
+// The kind, the dimensions and the resources of the register `s`, with its file's first fault.
 pub(crate) const REGISTERS: [(&str, &str, &str, &str); 26] = [
     ("'balance'", "['a:code']", "['n:3']", "accepted"),
     ("'balance'", "[]", "['n:0', 'm:6']", "accepted"),
@@ -171,7 +179,7 @@ pub(crate) const REGISTERS: [(&str, &str, &str, &str); 26] = [
     ),
 ];
 
-/// The accounts of the ledger `main`, with its file's first fault.
+// The accounts of the ledger `main`, with its file's first fault.
 pub(crate) const ACCOUNTS: [(&str, &str); 36] = [
     ("[]", "accepted"),
     ("1", "2 Field ledger.main.accounts"),
@@ -320,7 +328,7 @@ pub(crate) const ACCOUNTS: [(&str, &str); 36] = [
 const SEVENTEEN_FIELDS: &str = "['a:1', 'b:1', 'c:1', 'd:1', 'e:1', 'f:1', 'g:1', 'h:1', 'i:1', \
     'j:1', 'k:1', 'l:1', 'm:1', 'n:1', 'o:1', 'p:1', 'a:1']";
 
-/// The head, the lines and the rules of the document type `d`, with its file's first fault.
+// The head, the lines and the rules of the document type `d`, with its file's first fault.
 pub(crate) const DOCUMENTS: [(&str, &str, &str, &str); 12] = [
     ("[]", "[]", "''", "accepted"),
     ("['a:code', 'b:0']", "['a:code']", "'x'", "accepted"),
@@ -336,14 +344,14 @@ pub(crate) const DOCUMENTS: [(&str, &str, &str, &str); 12] = [
     ("[]", "[]", "1", "2 Field document.d.rules"),
 ];
 
-/// A register with balances, one of turnovers, and two document types, in front of a sequence `q`.
+// A register with balances, one of turnovers, and two document types, in front of a sequence `q`.
 pub(crate) const SHOP: &str = "[register.b]\nkind = 'balance'\ndimensions = ['w:code', 'l:lot']\n\
     resources = ['n:0']\n[register.t]\nkind = 'turnover'\ndimensions = ['w:code']\n\
     resources = ['n:0']\n[document.r]\nhead = ['w:code', 'l:code']\nlines = []\nrules = ''\n\
     [document.s]\nhead = ['w:2']\nlines = []\nrules = ''\n[sequence.q]\ndocuments = ";
 
-/// The document types, registers and dimensions of a sequence `q` of that shop, with the file's
-/// first fault.
+// The document types, registers and dimensions of a sequence `q` of that shop, with the file's
+// first fault.
 pub(crate) const SEQUENCES: [(&str, &str, &str, &str); 20] = [
     ("['r']", "['b']", "['w']", "accepted"),
     ("['r', 's']", "['b']", "[]", "accepted"),

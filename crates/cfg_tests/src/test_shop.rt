@@ -1,5 +1,5 @@
 //! A whole configuration with what it says, and entries of a small chart with what is told of them.
-/// A configuration with each group: stock in lots and in sum, their sales, a ledger, a sequence.
+// A configuration with each group: stock in lots and in sum, their sales, a ledger, a sequence.
 pub(crate) const WHOLE_SHOP: &str = r#"
 [register.stock]
 kind = "balance"
@@ -70,7 +70,7 @@ rights = ["write", "post", "manual", "read", "lock", "admin"]
 rights = ["write", "post", "manual", "read", "lock", "admin"]
 "#;
 
-/// What that configuration says, with the number of bytes of each document type's rules.
+// What that configuration says, with the number of bytes of each document type's rules.
 pub(crate) const WHOLE_SHOP_TOLD: &str = "\
 goods balance split item:code quantity:3 amount:2
 sales turnover item:code quantity:3 amount:2
@@ -86,7 +86,7 @@ anna write post manual read lock admin
 boris write post manual read lock admin
 ";
 
-/// A chart with a group, and accounts that are off-balance, given in no order of codes.
+// A chart with a group, and accounts that are off-balance, given in no order of codes.
 pub(crate) const CHART: &str = r#"
 [ledger.main]
 scale = 2
@@ -99,26 +99,26 @@ accounts = [
 ]
 "#;
 
-/// What that chart says.
+// What that chart says.
 pub(crate) const CHART_TOLD: &str = "\
 main:2 001,Leased,Active,off 002,Goods kept,Both,off,item 10,Goods,Active \
 101,Goods here,Active,of 10,item,place 60,Suppliers,Passive
 ";
 
-/// The account of the debit with how many extras it gives, the same of the credit, and the answer.
-/// A side without an account is not given.
+// The account of the debit with how many extras it gives, the same of the credit, and the answer.
+// A side without an account is not given.
 pub(crate) type Entry = (&'static str, u8, &'static str, u8, &'static str);
 
-/// Rows of entries.
+// Rows of entries.
 pub(crate) type Entries = &'static [Entry];
 
-/// Entries of goods in the whole configuration.
+// Entries of goods in the whole configuration.
 pub(crate) const GOODS: [Entry; 2] = [
     ("10", 0, "60", 0, "ExtraCount"),
     ("10", 1, "60", 0, "accepted"),
 ];
 
-/// Entries of the chart.
+// Entries of the chart.
 pub(crate) const ENTRIES: [Entry; 24] = [
     ("101", 2, "60", 0, "accepted"),
     ("60", 0, "101", 2, "accepted"),

@@ -6,7 +6,7 @@ use cfg_model::{
 use reg_base::Name;
 use std::alloc::Global;
 
-/// A text that grows piece by piece, until memory is refused.
+// A text that grows piece by piece, until memory is refused.
 #[derive(Drop)]
 struct Telling {
     text: String,
@@ -28,8 +28,8 @@ impl Telling {
     }
 }
 
-/// A line for each register, ledger, document type, sequence and clerk; none where memory is
-/// wanted.
+// A line for each register, ledger, document type, sequence and clerk; none where memory is
+// wanted.
 pub(crate) fn told(alloc: Global, config: &Config) -> Option<String> {
     let mut out = Telling {
         text: String::new(alloc),

@@ -1,9 +1,8 @@
-mod WorkedRows
-pub mod PartLemmas
-pub mod ReadingLemmas
 pub mod DeskLemmas
 pub mod LineLemmas
-pub mod LawLemmas
+pub mod PartLemmas
+pub mod PlanLemmas
+pub mod RaiseLemmas
+pub mod ReadingLemmas
 pub mod RowLemmas
 pub mod SetLemmas
-pub mod RaiseLemmas

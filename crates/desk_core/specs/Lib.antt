@@ -1,10 +1,6 @@
-pub mod Answers
-pub mod Desk
+pub mod DeskViews
 pub mod Invariants
-pub mod Laws
 pub mod Lines
-pub mod Meanings
-pub mod Opened
+pub mod Outcomes
 pub mod Rows
-pub mod Serial
-pub mod State
+pub mod Tries

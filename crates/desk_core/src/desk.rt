@@ -1,40 +1,54 @@
 //! The desk: a configuration with the documents that were made.
 //!
 //! Kept: the documents in order of number, each with its records, and the greatest number that was
-//! drawn. A balance walks the records of the documents, since a sum does not depend on their
+//! committed. A balance walks the records of the documents, since a sum does not depend on their
 //! order.
 //!
 //!     documents  [1: nail 10.000 50.00]  [2: nail -2.000 -10.00]        top  2
-ghost use Rattle.std.specs.Prelude.{◌≡◌, IfOk, OnOk, OnErr, None, map};
+ghost use Rattle.std.specs.Prelude.{◌≡◌, ◌<◌, ◌++◌, ◌∷◌, [], vec_len, vec_capacity, IsTrue, IfOk};
+ghost use Rattle.std.specs.Prelude.{OnOk, OnErr, None, Some, map};
 ghost use Rattle.std.specs.Option.{ForSome};
 ghost use Rattle.desk_words.specs.declared.request.Request.TheVariants as RequestIs;
-ghost use Rattle.desk_core.specs.State.{first_desk};
-ghost use Rattle.desk_core.specs.Opened.{Steps, IsNext, desk_with, outcome_of};
-ghost use Rattle.desk_core.specs.Meanings.{plan_manual, look_balance, manual_doc as manual_doc_of};
-ghost use Rattle.desk_core.specs.Serial.{change_work, work_of as work_of_plan, read_answer, is_clerk, answer_of as answer_of_work};
-ghost use Rattle.desk_core.specs.Laws.{IsRefusal};
+ghost use Rattle.desk_words.specs.ReplyTexts.{HasScales};
+ghost use Rattle.desk_words.specs.WellFormed.{IsRequest, IsManualRequest};
+ghost use Rattle.desk_model.specs.State.{first_desk};
+ghost use Rattle.desk_model.specs.Plans.{Meaning};
+ghost use Rattle.desk_model.specs.Manuals.{manual_doc as manual_doc_of};
+ghost use Rattle.desk_model.specs.Manuals.{plan_manual as plan_of_manual};
+ghost use Rattle.desk_model.specs.Questions.{question_balance};
+ghost use Rattle.desk_model.specs.Effects.{or_stop};
+ghost use Rattle.desk_model.specs.Serial.{is_clerk, deed_effect, plan_effect};
+ghost use Rattle.desk_model.specs.Serial.{question_answer, question_effect};
+ghost use Rattle.desk_model.specs.Serial.{document_from as document_from_plan};
+ghost use Rattle.desk_model.specs.Desk.{step as step_of, meaning_at, command_at, effect_at};
+ghost use Rattle.desk_model.specs.Desk.{tests_of, next_number as number_next};
+ghost use Rattle.desk_model.specs.Laws.{IsRefusal};
+ghost use Rattle.desk_core.specs.DeskViews.{IsStep, IsNext, desk_with};
+ghost use Rattle.desk_core.specs.Outcomes.{Prepares, outcome_of};
+ghost use Rattle.desk_core.specs.Tries.{Tries, TriesAs};
 
-use crate::clerks::is_batch;
-use crate::given::{Given, wrong};
-use crate::making::make_sets;
-use crate::manual::given_of;
+use crate::clerks::{clerk_of, is_batch};
+use crate::given::wrong;
+use crate::making::record_sets;
+use crate::manual::given_sets;
+use crate::outcome::{Outcome, Prepared, document_outcome, refusal_outcome, reply_line};
 use crate::rows::balance_rows;
-use crate::tried::Tried;
-use crate::work::{Outcome, Work};
+use crate::tried::{PartFault, Tried};
 use cfg_model::{Config, Resource};
+use desk_model::{Given, Plan, Source, refusals_change_nothing, replies_have_scales};
 use desk_words::{Answer, Balance, Field, Limit, Manual, Refusal, Reply, Request};
-use reg_base::{Comment, Cut, Date, Doc, DocState, Document, List, Memory, Name, Scale, Sets};
+use reg_base::{Comment, Cut, Date, Doc, DocState, Document, List, Memory, Name, Scale};
 use std::alloc::Global;
 use std::marker::Model;
 
 /// Why a step gave no reply.
 #[derive(Clone, Copy, Debug, PartialEq, Eq)]
 pub enum StepEnd {
-    /// Want of memory; the desk is as before.
+    /// Out of memory; the desk is as before.
     Memory,
 }
 
-/// A posting desk, seen as its setting with what it knows.
+/// A posting desk, seen as that of the machine.
 #[derive(Drop)]
 pub struct Desk {
     config: Config,
@@ -43,14 +57,18 @@ pub struct Desk {
 }
 
 impl Model for Desk {
-    ghost use Rattle.desk_core.specs.Opened.{Opened};
+    ghost use Rattle.std.specs.Prelude.{◌-◌, vec_len, vec_capacity};
+    ghost use Rattle.desk_core.specs.DeskViews.{DeskView};
     ghost use Rattle.desk_core.specs.Invariants.{AreKept};
 
-    ghost Value = { Opened };
+    ghost Value = { DeskView };
 
     ghost view = { λ d. record {
-      setting = record { config = d.config };
-      desk = record { serial = record { documents = d.documents.items; top = d.top } };
+      desk = record {
+        setting = record { config = d.config };
+        serial = record { documents = d.documents.items; top = d.top };
+      };
+      spare = vec_capacity d.documents - vec_len d.documents;
     } };
 
     ghost invariant = { λ d. AreKept d.documents.items d.top };
@@ -59,7 +77,7 @@ impl Model for Desk {
 impl Desk {
     /// A desk without documents.
     pub fn open(alloc: Global, config: Config) -> Desk
-        ensures { result ≡ record { setting = record { config = config }; desk = first_desk } }
+        ensures { result.desk ≡ first_desk (record { config = config }) }
     {
         Desk {
             config,
@@ -70,7 +88,7 @@ impl Desk {
 
     /// The configuration that the desk was opened with.
     pub fn config(&self) -> &Config
-        ensures { result.now ≡ self.now.setting.config }
+        ensures { result.now ≡ self.now.desk.setting.config }
     {
         &self.config
     }
@@ -78,131 +96,223 @@ impl Desk {
     /// Makes one event of the desk: its reply, and the desk after. Want of memory leaves the desk
     /// as it was.
     pub fn step(&mut self, alloc: Global, request: &Request) -> Result<Reply, StepEnd>
-        ensures ok { IfOk result (λ reply. Steps self.old request.now reply self.new) }
+        requires read { IsRequest request.now }
+        ensures ok { IfOk result (λ reply. IsStep self.old.desk request.now reply self.new.desk) }
 
         // A refusal changes nothing.
-        ensures refused { IfOk result (λ reply. IsRefusal reply → self.new ≡ self.old) }
-        ensures err { OnErr result (self.new ≡ self.old) }
+        ensures refused { IfOk result (λ reply. IsRefusal reply → self.new.desk ≡ self.old.desk) }
+
+        // So the reply can be printed.
+        ensures scales { IfOk result HasScales }
+        ensures err { OnErr result (self.new.desk ≡ self.old.desk) }
     {
-        let Outcome { reply, work } = self.outcome(alloc, request)?;
-        self.take_over(work)?;
+        let Prepared {
+            reply,
+            text: _,
+            document,
+        } = self.prepare(alloc, request)?;
+        self.enter(document)?;
+        refusals_change_nothing();
+        replies_have_scales();
         Ok(reply)
     }
 
-    /// Whether there is such a clerk.
+    // Takes all memory of a request but the room of its document, and changes nothing.
+    pub(crate) fn prepare(&self, alloc: Global, request: &Request) -> Result<Prepared, Memory>
+        requires { IsRequest request.now }
+        ensures { IfOk result (Prepares self.now.desk (step_of self.now.desk request.now)) }
+    {
+        let Outcome { reply, document } = self.outcome(alloc, request)?;
+        replies_have_scales();
+        let text = reply_line(alloc, &reply)?;
+        Ok(Prepared {
+            reply,
+            text,
+            document,
+        })
+    }
+
+    // Makes the room of a document and commits it; want of memory leaves the desk as it was.
+    pub(crate) fn enter(&mut self, document: Option<Document>) -> Result<(), Memory>
+        requires { ForSome document (IsNext self.old.desk) }
+        ensures ok { OnOk result (self.new.desk ≡ desk_with self.old.desk document) }
+        ensures err { OnErr result (self.new.desk ≡ self.old.desk) }
+    {
+        // The room is made first: nothing may fail once a document is committed.
+        self.make_room(&document)?;
+        self.commit(document);
+        Ok(())
+    }
+
+    // Makes the room for a document, where there is one.
+    fn make_room(&mut self, document: &Option<Document>) -> Result<(), Memory>
+        ensures room { OnOk result (ForSome document.now (λ _. 0 < self.new.spare)) }
+        ensures same { self.new.desk ≡ self.old.desk }
+    {
+        if document.is_some() {
+            self.documents.reserve(1)?;
+        }
+        Ok(())
+    }
+
+    // Commits a document, where there is one. It takes no memory.
+    fn commit(&mut self, document: Option<Document>)
+        requires next { ForSome document (IsNext self.old.desk) }
+        requires room { ForSome document (λ _. 0 < self.old.spare) }
+        ensures { self.new.desk ≡ desk_with self.old.desk document }
+    {
+        if let Some(document) = document {
+            self.top = document.doc.number;
+            put_behind(&mut self.documents, document);
+        }
+    }
+
+    // Whether there is such a clerk.
     fn has_clerk(&self, name: &Name) -> bool
-        ensures { result ≡ is_clerk self.now.setting.config name.now }
+        ensures { result ≡ is_clerk self.now.desk.setting.config name.now }
     {
         is_batch(name) || self.config.clerk_place(name).is_some()
     }
 
-    /// What the request comes to, before its work is taken over.
-    #[tactic(auto, unfolding(crate::specs::Opened::outcome_of))]
-    pub(crate) fn outcome(&self, alloc: Global, request: &Request) -> Result<Outcome, Memory>
-        ensures { IfOk result (λ outcome. outcome ≡ outcome_of self.now request.now) }
+    // What the request comes to, before anything is committed.
+    #[tactic(auto, unfolding(desk_model::specs::Serial::effect_of))]
+    fn outcome(&self, alloc: Global, request: &Request) -> Result<Outcome, Memory>
+        requires { IsRequest request.now }
+        ensures { IfOk result (λ outcome. outcome
+            ≡ outcome_of (effect_at self.now.desk request.now)) }
     {
+        if !self.has_clerk(clerk_of(request)) {
+            return Ok(refusal_outcome(Refusal::UnknownClerk));
+        }
         match request {
             Request::Manual(manual) => self.change(alloc, manual),
             Request::Balance(balance) => self.look(alloc, balance),
         }
     }
 
-    #[tactic(auto, unfolding(crate::specs::Opened::outcome_of))]
+    // What a change by hand comes to.
     fn change(&self, alloc: Global, manual: &Manual) -> Result<Outcome, Memory>
-        ensures { IfOk result (λ outcome. outcome
-            ≡ outcome_of self.now (RequestIs.Manual manual.now)) }
+        requires { IsManualRequest manual.now }
+        ensures { IfOk result (λ outcome. outcome ≡ outcome_of (or_stop (deed_effect
+            (tests_of self.now.desk (meaning_at self.now.desk (RequestIs.Manual manual.now)))
+            self.now.desk.setting self.now.desk.serial
+            (command_at self.now.desk (RequestIs.Manual manual.now)).number
+            (meaning_at self.now.desk (RequestIs.Manual manual.now)).deed))) }
     {
-        if !self.has_clerk(&manual.clerk) {
-            return Ok(refused(Refusal::UnknownClerk));
-        }
-        match self.work_of(alloc, manual)? {
-            Ok(work) => Ok(Outcome {
-                reply: Reply::Done(answer_of(&work)),
-                work: Some(work),
-            }),
-            Err(refusal) => Ok(refused(refusal)),
+        match self.plan_manual(alloc, manual) {
+            Ok(plan) => self.plan_outcome(alloc, plan),
+            Err(PartFault::Refused(refusal)) => Ok(refusal_outcome(refusal)),
+            Err(PartFault::Memory) => Err(Memory),
         }
     }
 
-    #[tactic(auto, unfolding(crate::specs::Opened::outcome_of))]
-    fn look(&self, alloc: Global, balance: &Balance) -> Result<Outcome, Memory>
-        ensures { IfOk result (λ outcome. outcome
-            ≡ outcome_of self.now (RequestIs.Balance balance.now)) }
+    // The document that `manual` makes, or the first refusal of its records.
+    #[tactic(auto, unfolding(desk_model::specs::Manuals::plan_manual))]
+    fn plan_manual(&self, alloc: Global, manual: &Manual) -> Tried<Plan>
+        ensures { Tries result
+            (plan_of_manual self.now.desk.setting.config manual.now
+            (record { before = None; drawn = number_next self.now.desk.serial })) }
     {
-        if !self.has_clerk(&balance.clerk) {
-            return Ok(refused(Refusal::UnknownClerk));
+        let given = given_sets(alloc, &self.config, &manual.sets)?;
+        let doc = manual_doc(alloc, self.next_number(), manual.date);
+        Ok(Plan {
+            doc,
+            source: Source::ByHand(given),
+        })
+    }
+
+    // The number that is drawn next, and 0 where none is left.
+    fn next_number(&self) -> u32
+        ensures { result ≡ number_next self.now.desk.serial }
+    {
+        self.top.checked_add(1).unwrap_or(0)
+    }
+
+    // What a plan of a new document comes to: a number must be left, and then its records are
+    // made.
+    #[tactic(auto, unfolding(desk_model::specs::Serial::plan_effect))]
+    fn plan_outcome(&self, alloc: Global, plan: Plan) -> Result<Outcome, Memory>
+        ensures { (meaning : Meaning) → IsTrue meaning.draws → IfOk result (λ outcome. outcome
+            ≡ outcome_of (or_stop (plan_effect (tests_of self.now.desk meaning)
+            self.now.desk.setting self.now.desk.serial (number_next self.now.desk.serial)
+            (record { before = None; drawn = number_next self.now.desk.serial }) plan))) }
+    {
+        if self.top == u32::MAX {
+            return Ok(refusal_outcome(no_number_left()));
         }
-        match self.answer_balance(alloc, balance)? {
+        match self.document_from(alloc, plan) {
+            Ok(document) => Ok(document_outcome(document)),
+            Err(PartFault::Refused(refusal)) => Ok(refusal_outcome(refusal)),
+            Err(PartFault::Memory) => Err(Memory),
+        }
+    }
+
+    // The document of a plan, with the records that are made for it.
+    fn document_from(&self, alloc: Global, plan: Plan) -> Tried<Document>
+        ensures { TriesAs Some result (document_from_plan
+            self.now.desk.setting self.now.desk.serial plan.doc plan.source) }
+    {
+        let Plan { doc, source } = plan;
+        match source {
+            Source::ByHand(given) => self.document_by_hand(alloc, doc, given),
+        }
+    }
+
+    // The document of records that are given by hand.
+    fn document_by_hand(&self, alloc: Global, doc: Doc, given: List<List<Given>>) -> Tried<Document>
+        ensures { TriesAs Some result (document_from_plan
+            self.now.desk.setting self.now.desk.serial doc (Source.ByHand given)) }
+    {
+        let sets = record_sets(alloc, &self.config, doc.date, given)?;
+        Ok(Document { doc, sets })
+    }
+
+    // What a question for a balance comes to.
+    #[tactic(auto, unfolding(desk_model::specs::Serial::question_effect))]
+    fn look(&self, alloc: Global, balance: &Balance) -> Result<Outcome, Memory>
+        ensures { IfOk result (λ outcome. outcome ≡ outcome_of (or_stop (question_effect
+            self.now.desk.serial
+            (question_balance self.now.desk.setting.config balance.now)))) }
+    {
+        match self.answer_balance(alloc, balance) {
             Ok(answer) => Ok(Outcome {
                 reply: Reply::Done(answer),
-                work: None,
+                document: None,
             }),
-            Err(refusal) => Ok(refused(refusal)),
+            Err(PartFault::Refused(refusal)) => Ok(refusal_outcome(refusal)),
+            Err(PartFault::Memory) => Err(Memory),
         }
     }
 
-    /// The document that `manual` makes: its records are read, then a number must be left, then
-    /// the records are made.
-    #[tactic(auto, unfolding(crate::specs::Serial::change_work))]
-    fn work_of(&self, alloc: Global, manual: &Manual) -> Tried<Work>
-        ensures { IfOk result (λ tried. tried
-            ≡ change_work self.now.desk.serial (plan_manual self.now.setting.config manual.now)) }
-    {
-        let given = match given_of(alloc, &self.config, &manual.sets)? {
-            Ok(given) => given,
-            Err(refusal) => return Ok(Err(refusal)),
-        };
-        if self.top == u32::MAX {
-            return Ok(Err(no_number_left()));
-        }
-        make_document(alloc, self.top + 1, manual.date, given)
-    }
-
-    /// The rows of a balance of all the register's records.
-    #[tactic(auto, unfolding(crate::specs::Meanings::look_balance, crate::specs::Serial::read_answer))]
+    // The rows of a balance of all the register's records.
+    #[tactic(auto, unfolding(desk_model::specs::Questions::question_balance, desk_model::specs::Serial::question_answer))]
     fn answer_balance(&self, alloc: Global, balance: &Balance) -> Tried<Answer>
-        ensures { IfOk result (λ tried. tried
-            ≡ read_answer self.now.desk.serial (look_balance self.now.setting.config balance.now)) }
+        ensures { Tries result (question_answer self.now.desk.serial
+            (question_balance self.now.desk.setting.config balance.now)) }
     {
         let Some(place) = self.config.register_place(&balance.register) else {
-            return Ok(Err(wrong(Field::Register)));
+            return Err(wrong(Field::Register));
         };
         let Some(register) = self.config.registers.get(place) else {
-            return Ok(Err(wrong(Field::Register)));
+            return Err(wrong(Field::Register));
         };
         if !register.balance {
-            return Ok(Err(wrong(Field::Register)));
+            return Err(wrong(Field::Register));
         }
         let cut = balance.cut.unwrap_or(Cut::Now);
         let resources = register.resources.as_slice();
         let rows = balance_rows(alloc, &self.documents, place, resources.len(), cut)?;
         let scales = scales_of(alloc, resources)?;
-        Ok(Ok(Answer::Balance { rows, scales }))
-    }
-
-    /// Takes over the work of a request; want of memory leaves the desk as it was.
-    pub(crate) fn take_over(&mut self, work: Option<Work>) -> Result<(), Memory>
-        requires { ForSome work (IsNext self.old.desk) }
-        ensures ok { OnOk result
-            (self.new
-            ≡ record { setting = self.old.setting; desk = desk_with self.old.desk work }) }
-        ensures err { OnErr result (self.new ≡ self.old) }
-    {
-        if let Some(Work { after }) = work {
-            self.documents.push(after)?;
-            self.top += 1;
-        }
-        Ok(())
+        Ok(Answer::Balance { rows, scales })
     }
 }
 
-pub(crate) fn refused(refusal: Refusal) -> Outcome
-    ensures { result ≡ record { reply = Reply.Refused refusal; work = None } }
+// Puts a document behind the others, for which there is room.
+fn put_behind(documents: &mut Vec<Document>, document: Document)
+    requires { vec_len documents.old < vec_capacity documents.old }
+    ensures { documents.new.items ≡ documents.old.items ++ document ∷ [] }
 {
-    Outcome {
-        reply: Reply::Refused(refusal),
-        work: None,
-    }
+    documents.push(document).unwrap();
 }
 
 fn no_number_left() -> Refusal
@@ -214,39 +324,7 @@ fn no_number_left() -> Refusal
     }
 }
 
-/// How a document stands, as a change answers it.
-fn answer_of(work: &Work) -> Answer
-    ensures { result ≡ answer_of_work work.now }
-{
-    let doc = &work.after.doc;
-    Answer::Document {
-        active: doc.active,
-        doc: doc.number,
-        state: doc.state,
-    }
-}
-
-/// The document of this number with the records that are made of those given.
-#[tactic(auto, unfolding(crate::specs::Serial::work_of))]
-fn make_document(alloc: Global, number: u32, date: Date, given: List<List<Given>>) -> Tried<Work>
-    ensures { IfOk result (λ tried. tried
-        ≡ work_of_plan (record { doc = manual_doc_of number date; given = given })) }
-{
-    let registers = match make_sets(alloc, date, given)? {
-        Ok(registers) => registers,
-        Err(refusal) => return Ok(Err(refusal)),
-    };
-    let sets = Sets {
-        registers,
-        ledgers: List::new(alloc),
-    };
-    let doc = manual_doc(alloc, number, date);
-    Ok(Ok(Work {
-        after: Document { doc, sets },
-    }))
-}
-
-/// A posted document without a type, a key or a comment.
+// A posted document without a type, a key or a comment.
 fn manual_doc(alloc: Global, number: u32, date: Date) -> Doc
     ensures { result ≡ manual_doc_of number date }
 {

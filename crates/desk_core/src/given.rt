@@ -1,64 +1,61 @@
 //! Records as they are given: each text read for its dimension or resource.
-ghost use Rattle.std.specs.Prelude.{◌≡◌, IfOk};
-ghost use Rattle.desk_core.specs.Meanings.{takes_mark as takes_mark_of, read_record as read_record_of, read_text};
+ghost use Rattle.std.specs.Prelude.{◌≡◌};
+ghost use Rattle.desk_words.specs.declared.reply.Refusal.TheVariants.{BadField};
+ghost use Rattle.desk_model.specs.Manuals.{takes_mark as takes_mark_of};
+ghost use Rattle.desk_model.specs.Manuals.{given_record as record_of_text};
+ghost use Rattle.desk_model.specs.Manuals.{record_in_register as record_of_register};
+ghost use Rattle.desk_core.specs.declared.tried.PartFault.TheVariants.{Refused};
+ghost use Rattle.desk_core.specs.Tries.{Tries};
 
-use crate::part::read_each;
-use crate::tried::Tried;
+use crate::part::values_for;
+use crate::tried::{PartFault, Tried};
 use cfg_model::Register;
+use desk_model::Given;
 use desk_words::{Field, RecordText, Refusal, RegisterText};
-use reg_base::{List, Mark, Value};
+use reg_base::Mark;
 use std::alloc::Global;
 
-/// A record that was read from a request, before it has a line.
-#[derive(Drop)]
-pub struct Given {
-    pub mark: Mark,
-    /// One value per dimension of its register.
-    pub values: List<Value>,
-    /// One number per resource, in units at the resource's scale.
-    pub sums: List<i64>,
-}
-
-/// A record of a register, or the first of its parts that is wrong.
-#[tactic(auto, unfolding(crate::specs::Meanings::read_record))]
-pub(crate) fn read_record(alloc: Global, register: &Register, text: &RecordText) -> Tried<Given>
-    ensures { IfOk result (λ tried. tried ≡ read_record_of register.now text.now) }
+// A record of a register, or the first of its parts that is wrong.
+#[tactic(auto, unfolding(desk_model::specs::Manuals::given_record))]
+pub(crate) fn given_record(alloc: Global, register: &Register, text: &RecordText) -> Tried<Given>
+    ensures { Tries result (record_of_text register.now text.now) }
 {
     match text {
-        RecordText::Ledger(_) => Ok(Err(wrong(Field::Values))),
-        RecordText::Register(text) => read_text(alloc, register, text),
+        RecordText::Ledger(_) => Err(wrong(Field::Values)),
+        RecordText::Register(text) => record_in_register(alloc, register, text),
     }
 }
 
-pub(crate) fn wrong(field: Field) -> Refusal
-    ensures { result ≡ Refusal.BadField field }
+// The refusal of a request with a wrong field.
+pub(crate) fn wrong(field: Field) -> PartFault
+    ensures { result ≡ Refused (BadField field) }
 {
-    Refusal::BadField { field }
+    PartFault::Refused(Refusal::BadField { field })
 }
 
-#[tactic(auto, unfolding(crate::specs::Meanings::read_text))]
-fn read_text(alloc: Global, register: &Register, text: &RegisterText) -> Tried<Given>
-    ensures { IfOk result (λ tried. tried ≡ read_text register.now text.now) }
+#[tactic(auto, unfolding(desk_model::specs::Manuals::record_in_register))]
+fn record_in_register(alloc: Global, register: &Register, text: &RegisterText) -> Tried<Given>
+    ensures { Tries result (record_of_register register.now text.now) }
 {
-    let Some(values) = read_each(
+    let Some(values) = values_for(
         alloc,
         register.dimensions.as_slice(),
         text.values.as_slice(),
     )?
     else {
-        return Ok(Err(wrong(Field::Values)));
+        return Err(wrong(Field::Values));
     };
-    let Some(sums) = read_each(alloc, register.resources.as_slice(), text.sums.as_slice())? else {
-        return Ok(Err(wrong(Field::Sums)));
+    let Some(sums) = values_for(alloc, register.resources.as_slice(), text.sums.as_slice())? else {
+        return Err(wrong(Field::Sums));
     };
     if !takes_mark(register, text.mark) {
-        return Ok(Err(wrong(Field::Kind)));
+        return Err(wrong(Field::Kind));
     }
-    Ok(Ok(Given {
+    Ok(Given {
         mark: text.mark,
         values,
         sums,
-    }))
+    })
 }
 
 fn takes_mark(register: &Register, mark: Mark) -> bool

@@ -1,56 +1,40 @@
 //! One line in, the bytes of its answer out.
-ghost use Rattle.std.specs.Prelude.{◌≡◌, ◌==◌, ◌||◌, ◌++◌, ◌∷◌, [], IfOk, OnErr};
+ghost use Rattle.std.specs.Prelude.{◌≡◌, ◌==◌, ◌||◌, Ok, IfOk, OnErr};
 ghost use Rattle.std.specs.List.{list_all};
-ghost use Rattle.desk_words.specs.ReplyTexts.{reply_text};
-ghost use Rattle.desk_core.specs.Answers.{is_blank as is_blank_line};
-ghost use Rattle.desk_core.specs.Lines.{AnswersLine, outcome_of_line, outcome_of_request};
+ghost use Rattle.desk_words.specs.WellFormed.{IsRequest};
+ghost use Rattle.desk_words.specs.ReplyTexts.{RefusalHasScales};
+ghost use Rattle.desk_model.specs.Answers.{event_of_request, is_blank_line, line_event};
+ghost use Rattle.desk_model.specs.Answers.{refusal_event};
+ghost use Rattle.desk_core.specs.Lines.{AnswersLine};
+ghost use Rattle.desk_core.specs.Outcomes.{Prepares};
 
 use crate::clerks::{clerk_of, is_batch};
-use crate::desk::{Desk, StepEnd, refused};
-use crate::work::{Outcome, Work};
+use crate::desk::{Desk, StepEnd};
+use crate::outcome::{Prepared, reply_line};
 use desk_words::{Refusal, Reply, Request, WordFault};
-use reg_base::Memory;
-use reg_io::Line;
+use reg_base::{Line, Memory};
 use std::alloc::Global;
 
 /// Answers a line: the bytes of its reply with a line feed, or nothing for a blank line. Want of
 /// memory leaves the desk as it was.
 pub fn answer_line(alloc: Global, desk: &mut Desk, line: &Line) -> Result<Option<Vec<u8>>, StepEnd>
-    ensures ok { IfOk result (λ out. AnswersLine desk.old line.now out desk.new) }
-    ensures err { OnErr result (desk.new ≡ desk.old) }
+    ensures ok { IfOk result (λ out. AnswersLine desk.old.desk line.now out desk.new.desk) }
+    ensures err { OnErr result (desk.new.desk ≡ desk.old.desk) }
 {
     if is_blank(line) {
         return Ok(None);
     }
-    // The reply is printed first: behind the change nothing may fail.
-    let Told { text, work } = told_by(alloc, desk, line)?;
-    desk.take_over(work)?;
+    // The text is made before anything changes: behind the change nothing may fail.
+    let Prepared {
+        reply: _,
+        text,
+        document,
+    } = prepare_line(alloc, desk, line)?;
+    desk.enter(document)?;
     Ok(Some(text))
 }
 
-/// What is told to a line, before anything is changed: the text of its reply, and the work that is
-/// still to be taken over.
-#[derive(Drop)]
-struct Told {
-    text: Vec<u8>,
-    work: Option<Work>,
-}
-
-/// Prints the reply to a line.
-fn told_by(alloc: Global, desk: &Desk, line: &Line) -> Result<Told, Memory>
-    ensures text { IfOk result (λ told. told.text.items
-        ≡ reply_text (outcome_of_line desk.now line.now).reply ++ 10 ∷ []) }
-    ensures work { IfOk result (λ told. told.work ≡ (outcome_of_line desk.now line.now).work) }
-{
-    let outcome = line_outcome(alloc, desk, line)?;
-    let text = printed(alloc, &outcome.reply)?;
-    Ok(Told {
-        text,
-        work: outcome.work,
-    })
-}
-
-/// Whether a line has nothing but spaces and tabs.
+// Whether a line has nothing but spaces and tabs.
 fn is_blank(line: &Line) -> bool
     ensures { result ≡ is_blank_line line.now }
 {
@@ -66,33 +50,42 @@ fn are_blanks(bytes: &[u8]) -> bool
     bytes.iter().all(|b| *b == b' ' || *b == b'\t')
 }
 
-/// What a line comes to: what its request does, or the refusal of a line that is none.
-fn line_outcome(alloc: Global, desk: &Desk, line: &Line) -> Result<Outcome, Memory>
-    ensures { IfOk result (λ outcome. outcome ≡ outcome_of_line desk.now line.now) }
+// What a line that is not blank comes to: what its request does, or the refusal of a line that is
+// none.
+fn prepare_line(alloc: Global, desk: &Desk, line: &Line) -> Result<Prepared, Memory>
+    ensures { IfOk result (Prepares desk.now.desk (line_event desk.now.desk line.now)) }
 {
     match Request::read(alloc, line) {
-        Ok(request) => request_outcome(alloc, desk, &request),
+        Ok(request) => prepare_request(alloc, desk, &request),
         Err(WordFault::Memory) => Err(Memory),
-        Err(fault) => Ok(refused(Refusal::BadLine(fault))),
+        Err(fault) => prepare_refusal(alloc, desk, Refusal::BadLine(fault)),
     }
 }
 
-/// What a line's request comes to: no line speaks for the clerk that is built in.
-fn request_outcome(alloc: Global, desk: &Desk, request: &Request) -> Result<Outcome, Memory>
-    ensures { IfOk result (λ outcome. outcome ≡ outcome_of_request desk.now request.now) }
+// What a line's request comes to: no line speaks for the clerk that is built in.
+fn prepare_request(alloc: Global, desk: &Desk, request: &Request) -> Result<Prepared, Memory>
+    requires { IsRequest request.now }
+    ensures { IfOk result
+        (Prepares desk.now.desk (event_of_request desk.now.desk request.now)) }
 {
     if is_batch(clerk_of(request)) {
-        return Ok(refused(Refusal::UnknownClerk));
+        return prepare_refusal(alloc, desk, Refusal::UnknownClerk);
     }
-    desk.outcome(alloc, request)
+    desk.prepare(alloc, request)
 }
 
-/// The text of a reply with a line feed.
-fn printed(alloc: Global, reply: &Reply) -> Result<Vec<u8>, Memory>
-    ensures { IfOk result (λ text. text.items ≡ reply_text reply.now ++ 10 ∷ []) }
+// A refusal, which changes nothing.
+fn prepare_refusal(alloc: Global, desk: &Desk, refusal: Refusal) -> Result<Prepared, Memory>
+    requires { RefusalHasScales refusal }
+    ensures { IfOk result
+        (Prepares desk.now.desk (refusal_event desk.now.desk refusal)) }
 {
-    let mut text = Vec::new(alloc);
-    reply.print(alloc, &mut text)?;
-    text.push(b'\n')?;
-    Ok(text)
+    let _ = desk;
+    let reply = Reply::Refused(refusal);
+    let text = reply_line(alloc, &reply)?;
+    Ok(Prepared {
+        reply,
+        text,
+        document: None,
+    })
 }

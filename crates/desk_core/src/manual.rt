@@ -1,60 +1,56 @@
 //! The records that `manual` gives, read for the registers that it names.
-ghost use Rattle.std.specs.Prelude.{◌≡◌, ◌<◌, ◌==◌, [], length, replicate, IfOk, vec_len};
+ghost use Rattle.std.specs.Prelude.{◌≡◌, ◌<◌, ◌==◌, ℕ, All, [], length, map, IfOk, OnOk, vec_len};
 ghost use Rattle.std.specs.List.{list_any};
-ghost use Rattle.std.specs.Str.{bytes_eq};
-ghost use Rattle.desk_core.specs.Meanings.{space_of as space_of_set, read_set as read_set_of, read_record as read_record_of, read_sets as read_sets_of, check_each, each, are_distinct as are_distinct_sets, given_of as given_of_sets};
+ghost use Rattle.reg_base.specs.Results.{each};
+ghost use Rattle.desk_model.specs.Manuals.{space_of as place_of_set, set_records as records_of_set};
+ghost use Rattle.desk_model.specs.Manuals.{given_record as record_of_text};
+ghost use Rattle.desk_model.specs.Manuals.{with_sets as with_sets_of};
+ghost use Rattle.desk_model.specs.Manuals.{are_distinct as are_distinct_places};
+ghost use Rattle.desk_model.specs.Manuals.{given_sets as given_of_sets};
+ghost use Rattle.desk_core.specs.Tries.{Tries};
 
-use crate::given::{Given, read_record, wrong};
+use crate::given::{given_record, wrong};
 use crate::tried::Tried;
 use cfg_model::{Config, Register};
-use desk_words::{Field, RecordText, Refusal, SetText};
-use reg_base::{List, Memory, Name};
+use desk_model::Given;
+use desk_words::{Field, RecordText, SetText};
+use reg_base::{List, Memory};
 use std::alloc::Global;
 
-/// The records given for the register at a place of the configuration.
-#[derive(Drop)]
-pub struct GivenSet {
-    pub place: usize,
-    pub records: List<Given>,
-}
-
-/// The records given for each register of the configuration, or the first refusal.
-#[tactic(auto, unfolding(crate::specs::Meanings::given_of))]
-pub(crate) fn given_of(
+// The records given for each register of the configuration, or the first refusal.
+#[tactic(auto, unfolding(desk_model::specs::Manuals::given_sets))]
+pub(crate) fn given_sets(
     alloc: Global,
     config: &Config,
     sets: &List<SetText>,
 ) -> Tried<List<List<Given>>>
-    ensures { IfOk result (λ tried. tried ≡ given_of_sets config.now sets.now) }
+    ensures { Tries result (given_of_sets config.now sets.now) }
 {
     let sets = sets.as_slice();
-    if let Err(refusal) = check_spaces(config, sets) {
-        return Ok(Err(refusal));
+    let places = places_of(alloc, config, sets)?;
+    let lists = empty_lists(alloc, config.registers.as_slice())?;
+    let given = with_sets(alloc, config, lists, places.as_slice(), sets)?;
+    if !are_distinct(places.as_slice()) {
+        return Err(wrong(Field::Space));
     }
-    let lists = empty_lists(alloc, config.registers.len())?;
-    let given = match read_sets(alloc, config, lists, sets)? {
-        Ok(given) => given,
-        Err(refusal) => return Ok(Err(refusal)),
-    };
-    if !are_distinct(sets) {
-        return Ok(Err(wrong(Field::Space)));
-    }
-    Ok(Ok(given))
+    Ok(given)
 }
 
-/// Goes on where each set names a register of the configuration.
-fn check_spaces(config: &Config, sets: &[SetText]) -> Result<(), Refusal>
-    ensures { result ≡ check_each (space_of_set config.now) sets.now }
+// The places of the registers that the sets name.
+fn places_of(alloc: Global, config: &Config, sets: &[SetText]) -> Tried<List<usize>>
+    ensures { Tries result (each (place_of_set config.now) sets.now) }
 {
+    let mut places = Vec::new(alloc);
     'sets: for set in sets {
-        space_of(config, set)?;
+        let place = place_of(config, set)?;
+        places.push(place)?;
     }
-    Ok(())
+    Ok(List::from_vec(places))
 }
 
-#[tactic(auto, unfolding(crate::specs::Meanings::space_of))]
-fn space_of(config: &Config, set: &SetText) -> Result<usize, Refusal>
-    ensures { result ≡ space_of_set config.now set.now }
+#[tactic(auto, unfolding(desk_model::specs::Manuals::space_of))]
+fn place_of(config: &Config, set: &SetText) -> Tried<usize>
+    ensures { Tries result (place_of_set config.now set.now) }
 {
     match config.register_place(&set.space) {
         Some(place) => Ok(place),
@@ -62,84 +58,76 @@ fn space_of(config: &Config, set: &SetText) -> Result<usize, Refusal>
     }
 }
 
-fn empty_lists(alloc: Global, count: usize) -> Result<Vec<List<Given>>, Memory>
-    ensures { IfOk result (λ lists. lists.items ≡ replicate count []) }
+// No records yet, for each register.
+fn empty_lists(alloc: Global, registers: &[Register]) -> Result<Vec<List<Given>>, Memory>
+    ensures { IfOk result (λ lists. lists.items ≡ map (λ _. []) registers.now) }
 {
     let mut lists = Vec::new(alloc);
-    'lists: for _ in 0..count {
+    'registers: for _ in registers {
         lists.push(List::new(alloc))?;
     }
     Ok(lists)
 }
 
-/// Puts the records of each set at the place of its register.
-fn read_sets(
+// Puts the records of each set at the place of its register.
+fn with_sets(
     alloc: Global,
     config: &Config,
     mut lists: Vec<List<Given>>,
+    places: &[usize],
     sets: &[SetText],
 ) -> Tried<List<List<Given>>>
-    requires { vec_len lists ≡ length config.now.registers }
-    ensures { IfOk result (λ tried. tried ≡ read_sets_of config.now lists.items sets.now) }
+    requires lists { vec_len lists ≡ length config.now.registers }
+    requires places { length places.now ≡ length sets.now }
+    ensures { Tries result
+        (with_sets_of config.now lists.items places.now sets.now) }
 {
-    'sets: for set in sets {
-        let given = match read_set(alloc, config, set)? {
-            Ok(given) => given,
-            Err(refusal) => return Ok(Err(refusal)),
-        };
-        lists[given.place] = given.records;
+    'sets: for (index, set) in sets.iter().enumerate() {
+        let place = places[index];
+        let records = set_records(alloc, config, place, set)?;
+        lists[place] = records;
     }
-    Ok(Ok(List::from_vec(lists)))
+    Ok(List::from_vec(lists))
 }
 
-#[tactic(auto, unfolding(crate::specs::Meanings::read_set))]
-fn read_set(alloc: Global, config: &Config, set: &SetText) -> Tried<GivenSet>
-    ensures value { IfOk result (λ tried. tried ≡ read_set_of config.now set.now) }
-    ensures within { IfOk result
-        (λ tried. IfOk tried (λ g. g.place < length config.now.registers)) }
+// The records of a set, each read for the register at a place.
+#[tactic(auto, unfolding(desk_model::specs::Manuals::set_records))]
+fn set_records(alloc: Global, config: &Config, place: usize, set: &SetText) -> Tried<List<Given>>
+    ensures value { Tries result (records_of_set config.now place set.now) }
+    ensures within { OnOk result (place < length config.now.registers) }
 {
-    let place = match space_of(config, set) {
-        Ok(place) => place,
-        Err(refusal) => return Ok(Err(refusal)),
-    };
     let Some(register) = config.registers.get(place) else {
-        return Ok(Err(wrong(Field::Space)));
+        return Err(wrong(Field::Space));
     };
-    let records = match read_records(alloc, register, set.records.as_slice())? {
-        Ok(records) => records,
-        Err(refusal) => return Ok(Err(refusal)),
-    };
-    Ok(Ok(GivenSet { place, records }))
+    read_records(alloc, register, set.records.as_slice())
 }
 
 fn read_records(alloc: Global, register: &Register, texts: &[RecordText]) -> Tried<List<Given>>
-    ensures { IfOk result (λ tried. tried ≡ each (read_record_of register.now) texts.now) }
+    ensures { Tries result (each (record_of_text register.now) texts.now) }
 {
     let mut records = Vec::new(alloc);
     'texts: for text in texts {
-        let given = match read_record(alloc, register, text)? {
-            Ok(given) => given,
-            Err(refusal) => return Ok(Err(refusal)),
-        };
+        let given = given_record(alloc, register, text)?;
         records.push(given)?;
     }
-    Ok(Ok(List::from_vec(records)))
+    Ok(List::from_vec(records))
 }
 
-/// Whether no space stands twice.
-fn are_distinct(sets: &[SetText]) -> bool
-    ensures { result ≡ are_distinct_sets sets.now }
+// Whether no place stands twice. Two of more places than there are registers are the same, so no
+// more of them are set against the others than there are registers.
+fn are_distinct(places: &[usize]) -> bool
+    ensures { result ≡ are_distinct_places places.now }
 {
-    'sets: for (index, set) in sets.iter().enumerate() {
-        if names_space(&sets[index + 1..], &set.space) {
+    'places: for (index, place) in places.iter().enumerate() {
+        if has_place(&places[index + 1..], *place) {
             return false;
         }
     }
     true
 }
 
-fn names_space(sets: &[SetText], space: &Name) -> bool
-    ensures { result ≡ list_any (λ s. bytes_eq s.space space.now) sets.now }
+fn has_place(places: &[usize], place: usize) -> bool
+    ensures { result ≡ list_any (λ p. p == place) places.now }
 {
-    sets.iter().any(|s| s.space == *space)
+    places.iter().any(|p| *p == place)
 }

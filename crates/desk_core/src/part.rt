@@ -1,12 +1,12 @@
 //! The parts of a record: each text is read for the dimension or resource of its place.
 ghost use Rattle.std.specs.Prelude.{◌≡◌, List, ℕ, Option, IfOk};
-ghost use Rattle.desk_core.specs.Meanings.{read_value, read_amount, read_each};
+ghost use Rattle.desk_model.specs.Manuals.{value_in, amount_in, values_for};
 
 use cfg_model::{Dimension, Resource};
 use reg_base::{Code, List, Memory, Num, Point, Text, Value};
 use std::alloc::Global;
 
-/// A dimension or a resource, for which a text is read.
+// A dimension or a resource, for which a text is read.
 pub(crate) trait Part<X> {
     ghost reads: { Self → List ℕ → Option X };
 
@@ -15,7 +15,7 @@ pub(crate) trait Part<X> {
 }
 
 impl Part<Value> for Dimension {
-    ghost reads = { read_value };
+    ghost reads = { value_in };
 
     fn read(&self, text: &str) -> Option<Value> {
         if self.lot {
@@ -28,7 +28,7 @@ impl Part<Value> for Dimension {
 }
 
 impl Part<i64> for Resource {
-    ghost reads = { read_amount };
+    ghost reads = { amount_in };
 
     fn read(&self, text: &str) -> Option<i64> {
         let num = Num::parse(text, self.scale.get()).ok()?;
@@ -36,13 +36,13 @@ impl Part<i64> for Resource {
     }
 }
 
-/// What the texts spell, where there is one for each part and all are read.
-pub(crate) fn read_each<X: Drop, P: Part<X>>(
+// What the texts spell, where there is one for each part and all are read.
+pub(crate) fn values_for<X: Drop, P: Part<X>>(
     alloc: Global,
     parts: &[P],
     texts: &[Text],
 ) -> Result<Option<List<X>>, Memory>
-    ensures { IfOk result (λ spelt. spelt ≡ read_each P.reads parts.now texts.now) }
+    ensures { IfOk result (λ spelt. spelt ≡ values_for P.reads parts.now texts.now) }
 {
     if parts.len() != texts.len() {
         return Ok(None);

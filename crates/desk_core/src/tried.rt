@@ -1,6 +1,36 @@
-//! What is tried: a value or a refusal, unless memory is wanted.
+//! What a part of the desk makes of a request, unless it is refused or memory is wanted.
 use desk_words::Refusal;
 use reg_base::Memory;
+use std::alloc::AllocFailed;
 
-/// A value or the refusal that stands in its place; want of memory says nothing of either.
-pub(crate) type Tried<X> = Result<Result<X, Refusal>, Memory>;
+// Why a part of the desk makes nothing.
+#[derive(Drop)]
+pub(crate) enum PartFault {
+    Refused(Refusal),
+    // Out of memory, which says nothing of the request.
+    Memory,
+}
+
+pub(crate) type Tried<X> = Result<X, PartFault>;
+
+impl From<Memory> for PartFault {
+    ghost use Rattle.std.specs.Prelude.{◌≡◌};
+    ghost use Rattle.desk_core.specs.declared.tried.PartFault.TheVariants as PartFaultIs;
+
+    ghost from_gives = { λ _ e. e ≡ PartFaultIs.Memory };
+
+    fn from(_refused: Memory) -> PartFault {
+        PartFault::Memory
+    }
+}
+
+impl<T: Drop> From<AllocFailed<T>> for PartFault {
+    ghost use Rattle.std.specs.Prelude.{◌≡◌};
+    ghost use Rattle.desk_core.specs.declared.tried.PartFault.TheVariants as PartFaultIs;
+
+    ghost from_gives = { λ _ e. e ≡ PartFaultIs.Memory };
+
+    fn from(_refused: AllocFailed<T>) -> PartFault {
+        PartFault::Memory
+    }
+}

@@ -3,17 +3,25 @@ use Rattle.std.proofs.Common.{◌≡◌, ℕ, List, [], ◌∷◌, length, sym, 
 use Rattle.std.specs.Prelude.{Result, Ok, Err, ◌↔◌, ◌≢◌, ◌<◌, ◌≤◌, get_or, map, true, bytes_eq}
 use Rattle.std.proofs.lemmas.Slice.Eq.{bytes_eq-Decides}
 use Rattle.cfg_model.specs.declared.config.Config.{Config}
-use Rattle.desk_core.specs.Opened.{Opened}
+use Rattle.desk_model.specs.State.{Desk}
 use Rattle.desk_run.specs.declared.run.RunEnd.{RunEnd}
-use Rattle.desk_run.specs.declared.run.RunEnd.TheVariants.{Memory as RunMemory, Read as RunRead, Write as RunWrite, InputTooLong as RunTooLong}
+use Rattle.desk_run.specs.declared.run.RunEnd.TheVariants.{Memory as RunMemory, Read as RunRead}
+use Rattle.desk_run.specs.declared.run.RunEnd.TheVariants.{Write as RunWrite}
+use Rattle.desk_run.specs.declared.run.RunEnd.TheVariants.{InputTooLong as RunTooLong}
 use Rattle.desk_run.specs.declared.fault.Fault.{Fault}
-use Rattle.desk_run.specs.declared.fault.Fault.TheVariants.{Usage, Configuration, Rules, Memory, Read, Write, File, FileTooLong, InputTooLong}
+use Rattle.desk_run.specs.declared.fault.Fault.TheVariants.{Usage, Configuration, Rules, Memory}
+use Rattle.desk_run.specs.declared.fault.Fault.TheVariants.{Read, Write, File, FileTooLong}
+use Rattle.desk_run.specs.declared.fault.Fault.TheVariants.{InputTooLong}
 use Rattle.desk_run.specs.Runs.{Streams, Runs}
 use Rattle.desk_run.specs.Statuses.{run_fault, end_status}
-use Rattle.desk_run.specs.Ends.{ShelfState, AskNothing, ReadsAs, RunsFile, Ends, RunsWith, IsAccepted, first_opened}
+use Rattle.desk_run.specs.ConfigFiles.{ShelfState, ReadsAs}
+use Rattle.desk_run.specs.Ends.{AskNothing, RunsFile, Ends, RunsWith}
+use Rattle.desk_run.specs.ConfigFiles.{IsAccepted}
+use Rattle.desk_run.specs.Inputs.{desk_under}
 
 -- a run that ended early is what the call comes to
-pub RunsFile-fault : (name : List ℕ) (shelf shelf_now : ShelfState) (before now : Streams) (end : RunEnd) (config : Config)
+pub RunsFile-fault : (name : List ℕ) (shelf shelf_now : ShelfState) (before now : Streams)
+    (end : RunEnd) (config : Config)
     → ReadsAs shelf.files name (λ bytes. IsAccepted bytes config)
     → RunsWith config before now (Err end)
     → RunsFile name shelf shelf_now before now (Err (run_fault end))
@@ -27,21 +35,26 @@ RunsFile-fault name shelf shelf_now before now RunTooLong config accepted run =
     record { config = config; accepted = accepted; run = run }
 
 -- only a fault of usage has the status 2
-status_is_usage : (name : List ℕ) (shelf shelf_now : ShelfState) (before now : Streams) (end : Result (Unit {0}) Fault)
+status_is_usage : (name : List ℕ) (shelf shelf_now : ShelfState) (before now : Streams)
+    (end : Result (Unit {0}) Fault)
     → RunsFile name shelf shelf_now before now end → end_status end ≢ 2
 status_is_usage name shelf shelf_now before now (Ok done) runs e = absurd (omega (arith, e))
 status_is_usage name shelf shelf_now before now (Err Usage) runs e = absurd runs
-status_is_usage name shelf shelf_now before now (Err (Configuration fault)) runs e = absurd (omega (arith, e))
-status_is_usage name shelf shelf_now before now (Err (Rules fault)) runs e = absurd (omega (arith, e))
+status_is_usage name shelf shelf_now before now (Err (Configuration fault)) runs e =
+    absurd (omega (arith, e))
+status_is_usage name shelf shelf_now before now (Err (Rules fault)) runs e =
+    absurd (omega (arith, e))
 status_is_usage name shelf shelf_now before now (Err Memory) runs e = absurd (omega (arith, e))
 status_is_usage name shelf shelf_now before now (Err Read) runs e = absurd (omega (arith, e))
 status_is_usage name shelf shelf_now before now (Err Write) runs e = absurd (omega (arith, e))
 status_is_usage name shelf shelf_now before now (Err File) runs e = absurd (omega (arith, e))
 status_is_usage name shelf shelf_now before now (Err FileTooLong) runs e = absurd (omega (arith, e))
-status_is_usage name shelf shelf_now before now (Err InputTooLong) runs e = absurd (omega (arith, e))
+status_is_usage name shelf shelf_now before now (Err InputTooLong) runs e =
+    absurd (omega (arith, e))
 
 -- the status is 2 exactly where the words are none of the lists
-pub status-usage : (words : List (List ℕ)) (shelf shelf_now : ShelfState) (before now : Streams) (end : Result (Unit {0}) Fault) (status : ℕ)
+pub status-usage : (words : List (List ℕ)) (shelf shelf_now : ShelfState) (before now : Streams)
+    (end : Result (Unit {0}) Fault) (status : ℕ)
     → status ≡ end_status end → Ends words shelf shelf_now before now end
     → (status ≡ 2) ↔ AskNothing words
 status-usage words shelf shelf_now before now end status status_is ends = elim ends [
@@ -67,6 +80,7 @@ pub word_is : (bytes word : List ℕ) → bytes_eq bytes word ≡ true → bytes
 word_is bytes word same = (bytes_eq-Decides bytes word).0 same
 
 -- a run from the first desk under a configuration
-pub RunsWith-opened : (opened : Opened) (config : Config) (after : Opened) (before now : Streams) (end : Result (Unit {0}) RunEnd)
-    → opened ≡ first_opened config → Runs opened after before now end → RunsWith config before now end
-RunsWith-opened opened config after before now end e runs = (after, rw e at runs)
+pub RunsWith-opened : (desk : Desk) (config : Config) (after : Desk) (before now : Streams)
+    (end : Result (Unit {0}) RunEnd)
+    → desk ≡ desk_under config → Runs desk after before now end → RunsWith config before now end
+RunsWith-opened desk config after before now end e runs = (after, rw e at runs)

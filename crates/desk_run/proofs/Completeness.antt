@@ -7,14 +7,18 @@ use Rattle.reg_io.specs.declared.shelf.ShelfFault.TheVariants.{TooLong}
 use Rattle.cfg_model.specs.declared.config.Config.{Config}
 use Rattle.cfg_model.specs.Reading.{read_config}
 use Rattle.rule_lang.specs.Rules.{rules_of}
-use Rattle.desk_core.specs.Opened.{Opened}
-use Rattle.desk_core.specs.Answers.{answers}
-use Rattle.desk_core.specs.State.{first_desk}
+use Rattle.desk_model.specs.State.{Desk}
+use Rattle.desk_run.specs.Inputs.{desk_under, answers}
 use Rattle.desk_run.specs.declared.fault.Fault.{Fault}
-use Rattle.desk_run.specs.declared.fault.Fault.TheVariants.{Usage, Configuration, Rules, Memory, Read, Write, File, FileTooLong, InputTooLong}
+use Rattle.desk_run.specs.declared.fault.Fault.TheVariants.{Usage, Configuration, Rules, Memory}
+use Rattle.desk_run.specs.declared.fault.Fault.TheVariants.{Read, Write, File, FileTooLong}
+use Rattle.desk_run.specs.declared.fault.Fault.TheVariants.{InputTooLong}
 use Rattle.desk_run.specs.Runs.{Streams, AnswersAll}
 use Rattle.desk_run.specs.Statuses.{end_status, file_word}
-use Rattle.desk_run.specs.Ends.{most_config_bytes, ShelfState, IsRun, HasBytes, RunsFile, Ends, MayRun, Succeeds, first_opened}
+use Rattle.desk_run.specs.ConfigFiles.{most_config_bytes, ShelfState, HasBytes}
+use Rattle.desk_run.specs.Ends.{IsRun, HoldsConfig}
+use Rattle.desk_run.specs.ConfigFiles.{IsAccepted, ReadsAs}
+use Rattle.desk_run.specs.Ends.{RunsFile, Ends, MayRun, Succeeds}
 
 -- two answers that are the same value
 ok_same : {T E : Type 0} (read : Result T E) (a b : T) → read ≡ Ok a → read ≡ Ok b → a ≡ b
@@ -22,46 +26,71 @@ ok_same (Ok x) a b p q = cc
 ok_same (Err e) a b p q = absurd cc
 
 -- an answer is no value and fault at once
-not_both : {T E : Type 0} (read : Result T E) (value : T) (fault : E) → read ≡ Ok value → read ≡ Err fault → ⊥
+not_both : {T E : Type 0} (read : Result T E) (value : T) (fault : E) → read ≡ Ok value →
+    read ≡ Err fault → ⊥
 not_both (Ok x) value fault p q = cc
 not_both (Err e) value fault p q = cc
 
 -- the file that is named is the one that is read
-same_bytes : (words : List (List ℕ)) (shelf shelf_now : ShelfState) (before now : Streams) (config : Config) (input : List ℕ) (name bytes : List ℕ)
-    → (may : MayRun words shelf shelf_now before now config input) → IsRun words name
-    → HasBytes shelf.files name bytes → may.bytes ≡ bytes
-same_bytes words shelf shelf_now before now config input name bytes may is_run has =
-    let same_name : may.name ≡ name = ap file_word (sym may.is_run ∙ is_run) in
-    let told = rw may.files at has.told in
-    ok_same (file_read (file_named name may.all) most_config_bytes) may.bytes bytes
-    (rw same_name at may.read) told
+same_bytes : (words : List (List ℕ)) (shelf : ShelfState) (config : Config) (name bytes : List ℕ)
+    → (holds : HoldsConfig words shelf config) → IsRun words name
+    → HasBytes shelf.files name bytes → holds.bytes ≡ bytes
+same_bytes words shelf config name bytes holds is_run has =
+    let same_name : holds.name ≡ name = ap file_word (sym holds.is_run ∙ is_run) in
+    let told = rw holds.files at has.told in
+    ok_same (file_read (file_named name holds.all) most_config_bytes) holds.bytes bytes
+    (rw same_name at holds.read) told
+
+-- and the configuration that it is accepted as is the one that it holds
+pub held_config : (words : List (List ℕ)) (shelf : ShelfState) (config : Config) (name : List ℕ)
+    (other : Config) → HoldsConfig words shelf config → IsRun words name
+    → ReadsAs shelf.files name (λ bytes. IsAccepted bytes other) → other ≡ config
+held_config words shelf config name other holds is_run accepted =
+    let same = same_bytes words shelf config name accepted.bytes holds is_run accepted.has in
+    ok_same (read_config accepted.bytes) other config accepted.read_as.0
+    (rw same at holds.accepted.0)
 
 -- all of the input is answered
-all_answers : (config : Config) (after : Opened) (before now : Streams) (input : List ℕ)
-    → before.left ≡ Some input → AnswersAll (first_opened config) after before now
-    → Appends before.taken now.taken (answers (first_opened config).setting first_desk input)
+all_answers : (config : Config) (after : Desk) (before now : Streams) (input : List ℕ)
+    → before.left ≡ Some input → AnswersAll (desk_under config) after before now
+    → Appends before.taken now.taken (answers (desk_under config) input)
 all_answers config after before now input input_is run =
-    let all = rw input_is at run.all in rw all.0 run.out
+    let all = rw input_is at run.all in rw all.0 run.answered.out
 
 -- what the run of a file comes to where nothing stands in the way
-file_succeeds : (words : List (List ℕ)) (shelf shelf_now : ShelfState) (before now : Streams) (config : Config) (input name : List ℕ) (end : Result (Unit {0}) Fault)
+file_succeeds : (words : List (List ℕ)) (shelf shelf_now : ShelfState) (before now : Streams)
+    (config : Config) (input name : List ℕ) (end : Result (Unit {0}) Fault)
     → MayRun words shelf shelf_now before now config input → IsRun words name
-    → RunsFile name shelf shelf_now before now end → Succeeds before now config input (end_status end)
+    → RunsFile name shelf shelf_now before now end →
+    Succeeds before now config input (end_status end)
 file_succeeds words shelf shelf_now before now config input name (Ok done) may is_run run =
-    let same = same_bytes words shelf shelf_now before now config input name run.accepted.bytes may is_run run.accepted.has in
+    let same = same_bytes words shelf config name run.accepted.bytes may.holds is_run
+    run.accepted.has in
     let same_config : run.config ≡ config =
-    ok_same (read_config run.accepted.bytes) run.config config run.accepted.read_as.0 (rw same at may.accepted.0) in
-    inl (refl, rw same_config at (all_answers run.config run.run.0 before now input may.input_is run.run.1))
-file_succeeds words shelf shelf_now before now config input name (Err Usage) may is_run run = absurd run
-file_succeeds words shelf shelf_now before now config input name (Err (Configuration fault)) may is_run run =
-    let same = same_bytes words shelf shelf_now before now config input name run.0.bytes may is_run run.0.has in
-    absurd (not_both (read_config run.0.bytes) config fault (rw same at may.accepted.0) run.0.read_as)
-file_succeeds words shelf shelf_now before now config input name (Err (Rules fault)) may is_run run =
-    let same = same_bytes words shelf shelf_now before now config input name run.0.bytes may is_run run.0.has in
+    ok_same (read_config run.accepted.bytes) run.config config run.accepted.read_as.0
+    (rw same at may.holds.accepted.0) in
+    inl (
+      refl,
+      rw same_config at
+          (all_answers run.config run.run.0 before now input may.input_is run.run.1),
+    )
+file_succeeds words shelf shelf_now before now config input name (Err Usage) may is_run run =
+    absurd run
+file_succeeds words shelf shelf_now before now config input name
+    (Err (Configuration fault)) may is_run run =
+    let same = same_bytes words shelf config name run.0.bytes may.holds is_run run.0.has in
+    absurd (not_both (read_config run.0.bytes) config fault
+    (rw same at may.holds.accepted.0) run.0.read_as)
+file_succeeds words shelf shelf_now before now config input name
+    (Err (Rules fault)) may is_run run =
+    let same = same_bytes words shelf config name run.0.bytes may.holds is_run run.0.has in
     let same_config : run.0.read_as.0 ≡ config =
-    ok_same (read_config run.0.bytes) run.0.read_as.0 config run.0.read_as.1 (rw same at may.accepted.0) in
-    absurd (not_both (rules_of config) may.accepted.1 fault may.accepted.2 (rw same_config at run.0.read_as.2))
-file_succeeds words shelf shelf_now before now config input name (Err Memory) may is_run run = inr refl
+    ok_same (read_config run.0.bytes) run.0.read_as.0 config run.0.read_as.1
+    (rw same at may.holds.accepted.0) in
+    absurd (not_both (rules_of config) may.holds.accepted.1 fault may.holds.accepted.2
+    (rw same_config at run.0.read_as.2))
+file_succeeds words shelf shelf_now before now config input name (Err Memory) may is_run run =
+    inr refl
 file_succeeds words shelf shelf_now before now config input name (Err Read) may is_run run =
     absurd (may.reads run.run.1.cause)
 file_succeeds words shelf shelf_now before now config input name (Err Write) may is_run run =
@@ -69,19 +98,24 @@ file_succeeds words shelf shelf_now before now config input name (Err Write) may
 file_succeeds words shelf shelf_now before now config input name (Err File) may is_run run =
     absurd (may.file_calls run.0)
 file_succeeds words shelf shelf_now before now config input name (Err FileTooLong) may is_run run =
-    let same_name : may.name ≡ name = ap file_word (sym may.is_run ∙ is_run) in
-    absurd (not_both (file_read (file_named name may.all) most_config_bytes) may.bytes TooLong
-    (rw same_name at may.read) (rw may.files at run.0))
+    let same_name : may.holds.name ≡ name = ap file_word (sym may.holds.is_run ∙ is_run) in
+    absurd (not_both (file_read (file_named name may.holds.all) most_config_bytes) may.holds.bytes
+    TooLong
+    (rw same_name at may.holds.read) (rw may.holds.files at run.0))
 file_succeeds words shelf shelf_now before now config input name (Err InputTooLong) may is_run run =
     let beyond = rw may.input_is at run.run.1.beyond in
     absurd (omega (arith, beyond.0, may.within))
 
 -- a call that may be made ends well, unless memory is refused
-pub call_succeeds : (words : List (List ℕ)) (shelf shelf_now : ShelfState) (before now : Streams) (end : Result (Unit {0}) Fault) (status : ℕ)
+pub call_succeeds : (words : List (List ℕ)) (shelf shelf_now : ShelfState) (before now : Streams)
+    (end : Result (Unit {0}) Fault) (status : ℕ)
     → status ≡ end_status end → Ends words shelf shelf_now before now end
     → (config : Config) (input : List ℕ) → MayRun words shelf shelf_now before now config input
     → Succeeds before now config input status
-call_succeeds words shelf shelf_now before now end status status_is ends config input may = elim ends [
-  | inl usage ↦ absurd (usage.0 may.name may.is_run)
-  | inr run ↦ rw status_is (file_succeeds words shelf shelf_now before now config input run.0 end may run.1 run.2)
-]
+call_succeeds words shelf shelf_now before now end status status_is ends config input may =
+    elim ends [
+      | inl usage ↦ absurd (usage.0 may.holds.name may.holds.is_run)
+      | inr run ↦ rw status_is (file_succeeds words shelf shelf_now before now config input run.0
+          end
+          may run.1 run.2)
+    ]

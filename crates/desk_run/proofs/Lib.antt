@@ -1,5 +1,7 @@
+pub mod PieceLemmas
 pub mod RunLemmas
 pub mod RunEnds
 pub mod CallEnds
 pub mod Completeness
+pub mod AnsweredBalances
 pub mod WorkedRows

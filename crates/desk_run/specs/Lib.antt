@@ -1,4 +1,6 @@
+pub mod AnsweredLines
+pub mod ConfigFiles
 pub mod Ends
+pub mod Inputs
 pub mod Runs
 pub mod Statuses
-pub mod Steps

@@ -1,11 +1,13 @@
 -- What running the lines of an input comes to: how it ends, what was written and what the desk is.
-use Rattle.std.specs.Prelude.{◌≡◌, ℕ, ◌<◌, ◌≤◌, List, ◌++◌, length, take, Option, IfSome, OnSome, Result, Ok, Err}
+use Rattle.std.specs.Prelude.{◌≡◌, ℕ, ◌<◌, ◌≤◌, List, [], ◌∷◌, ◌++◌, length, take, nat_le}
+use Rattle.std.specs.Prelude.{if◌then◌else◌, Option, IfSome, OnSome, Result, Ok, Err}
 use Rattle.std.specs.Io.KnownBytes.{Appends, Consumes, IsAtEnd}
-use Rattle.reg_io.specs.Counts.{AppendsPrefix, Rose}
+use Rattle.reg_io.specs.Counts.{Rose}
 use Rattle.reg_io.specs.Lines.{lines_of, whole_lines_of}
-use Rattle.reg_io.specs.declared.line.Line.{Line}
-use Rattle.desk_core.specs.Opened.{Opened}
-use Rattle.desk_core.specs.Answers.{answers_to, desk_after}
+use Rattle.reg_base.specs.declared.line.Line.{Line}
+use Rattle.desk_model.specs.State.{Desk}
+use Rattle.desk_model.specs.Answers.{line_answer, answers_to, desk_after}
+use Rattle.desk_model.specs.Laws.{BalancesHold}
 use Rattle.desk_run.specs.declared.run.RunEnd.{RunEnd}
 use Rattle.desk_run.specs.declared.run.RunEnd.TheVariants.{Memory, Read, Write, InputTooLong}
 
@@ -21,68 +23,86 @@ pub record Streams : Type 0 where
   pub taken : Option (List ℕ)
   pub write_faults : ℕ
 
--- the desk after these lines
-abbrev pub opened_after : Opened → List Line → Opened
-opened_after opened lines =
-    record { setting = opened.setting; desk = desk_after opened.setting opened.desk lines }
+-- what these two objects show, by what they tell of themselves
+abbrev pub streams_of : {S O : Type 0} → (S → Option (List ℕ)) → (S → ℕ) → (O → Option (List ℕ))
+    → (O → ℕ) → S → O → Streams
+streams_of left read_faults taken write_faults input out = record {
+  left = left input;
+  read_faults = read_faults input;
+  taken = taken out;
+  write_faults = write_faults out;
+}
 
--- the output grew by exactly the answers to these lines
-abbrev pub WritesAnswers : Opened → List Line → Streams → Streams → Type 0
-WritesAnswers opened lines before now =
-    Appends before.taken now.taken (answers_to opened.setting opened.desk lines)
+-- the lines of an input that may be answered: all of them where it lies within its limit, and else
+-- the whole ones within it
+abbrev pub answerable_lines : List ℕ → List Line
+answerable_lines bytes =
+    if nat_le (length bytes) most_input_bytes
+    then lines_of bytes
+    else whole_lines_of (take most_input_bytes bytes)
 
--- these are the first lines of the input, where its bytes are told
+-- these are first lines of an input that may be answered, where its bytes are told
 abbrev pub AreFirstLines : List Line → Option (List ℕ) → Type 0
 AreFirstLines lines input = IfSome input (λ bytes. (rest : List Line) ×
-    (lines_of bytes ≡ lines ++ rest))
+    (answerable_lines bytes ≡ lines ++ rest))
+
+-- these first lines were answered whole: the output grew by exactly their answers, among which
+-- each accepted balance is the sum at its place, and the desk is the one after them
+pub record AnswersLines (desk after : Desk) (lines : List Line)
+    (before now : Streams) : Type 0 where
+  pub first : AreFirstLines lines before.left
+  pub out : Appends before.taken now.taken (answers_to desk lines)
+  pub balances : BalancesHold desk lines
+  pub desk_is : after ≡ desk_after desk lines
 
 -- the input was read to its end and lies within its limit, and all of its lines were answered
-pub record AnswersAll (opened after : Opened) (before now : Streams) : Type 0 where
+pub record AnswersAll (desk after : Desk) (before now : Streams) : Type 0 where
   pub lines : List Line
   pub all : IfSome before.left (λ bytes. (lines_of bytes ≡ lines) ×
       (length bytes ≤ most_input_bytes))
   pub at_end : IsAtEnd now.left
-  pub out : WritesAnswers opened lines before now
-  pub desk_is : after ≡ opened_after opened lines
+  pub answered : AnswersLines desk after lines before now
 
 -- a read failed, and the whole lines of the bytes taken were answered
-pub record StopsAtRead (opened after : Opened) (before now : Streams) : Type 0 where
+pub record StopsAtRead (desk after : Desk) (before now : Streams) : Type 0 where
   pub bytes : List ℕ
   pub lines : List Line
   pub taken : Consumes before.left now.left bytes
   pub within : length bytes ≤ most_input_bytes
   pub whole : OnSome before.left (whole_lines_of bytes ≡ lines)
-  pub out : WritesAnswers opened lines before now
-  pub desk_is : after ≡ opened_after opened lines
+  pub answered : AnswersLines desk after lines before now
   pub cause : Rose before.read_faults now.read_faults
 
--- a write failed: first lines of the input were run, and a front of their answers was taken
-pub record StopsAtWrite (opened after : Opened) (before now : Streams) : Type 0 where
+-- a write failed: first lines were answered whole, and behind them one line was run, of whose
+-- answer the first bytes were taken, but not all
+pub record StopsAtWrite (desk after : Desk) (before now : Streams) : Type 0 where
   pub lines : List Line
-  pub first : AreFirstLines lines before.left
-  pub out : AppendsPrefix before.taken now.taken (answers_to opened.setting opened.desk lines)
-  pub desk_is : after ≡ opened_after opened lines
+  pub line : Line
+  pub first : AreFirstLines (lines ++ line ∷ []) before.left
+  pub count : ℕ
+  pub part : count < length (line_answer (desk_after desk lines) line)
+  pub out : Appends before.taken now.taken (answers_to desk lines
+      ++ take count (line_answer (desk_after desk lines) line))
+  pub balances : BalancesHold desk (lines ++ line ∷ [])
+  pub desk_is : after ≡ desk_after desk (lines ++ line ∷ [])
   pub cause : Rose before.write_faults now.write_faults
 
 -- the input passes its limit, and the whole lines within the limit were answered
-pub record PassesLimit (opened after : Opened) (before now : Streams) : Type 0 where
+pub record PassesLimit (desk after : Desk) (before now : Streams) : Type 0 where
   pub lines : List Line
   pub beyond : IfSome before.left (λ bytes. (most_input_bytes < length bytes)
       × (whole_lines_of (take most_input_bytes bytes) ≡ lines))
-  pub out : WritesAnswers opened lines before now
-  pub desk_is : after ≡ opened_after opened lines
+  pub answered : AnswersLines desk after lines before now
 
 -- memory was refused, and first lines of the input were answered
-pub record WantsMemory (opened after : Opened) (before now : Streams) : Type 0 where
+pub record WantsMemory (desk after : Desk) (before now : Streams) : Type 0 where
   pub lines : List Line
-  pub first : AreFirstLines lines before.left
-  pub out : WritesAnswers opened lines before now
-  pub desk_is : after ≡ opened_after opened lines
+  pub answered : AnswersLines desk after lines before now
 
 -- what a run comes to by how it ends, from a desk to the desk after
-abbrev pub Runs : Opened → Opened → Streams → Streams → Result (Unit {0}) RunEnd → Type 0
-Runs opened after before now (Ok _) = AnswersAll opened after before now
-Runs opened after before now (Err Memory) = WantsMemory opened after before now
-Runs opened after before now (Err Read) = StopsAtRead opened after before now
-Runs opened after before now (Err Write) = StopsAtWrite opened after before now
-Runs opened after before now (Err InputTooLong) = PassesLimit opened after before now
+abbrev pub Runs : Desk → Desk → Streams → Streams → Result (Unit {0}) RunEnd → Type 0
+Runs desk after before now (Ok _) = AnswersAll desk after before now
+Runs desk after before now (Err Memory) = WantsMemory desk after before now
+Runs desk after before now (Err Read) = StopsAtRead desk after before now
+Runs desk after before now (Err Write) = StopsAtWrite desk after before now
+Runs desk after before now (Err InputTooLong) = PassesLimit desk after before now

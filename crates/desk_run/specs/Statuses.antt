@@ -1,17 +1,23 @@
 -- The faults of a top call: the status of each, and its line on the error output.
-use Rattle.std.specs.Prelude.{ℕ, codes, Bool, true, false, List, [], ◌∷◌, ◌++◌, Result, Ok, Err}
+use Rattle.std.specs.Prelude.{ℕ, codes, List, [], ◌∷◌, ◌++◌, Result, Ok, Err}
 use Rattle.cfg_model.specs.declared.fault.CfgFault.{CfgFault}
-use Rattle.cfg_model.specs.declared.fault.CfgFault.TheVariants.{NotToml, Field, Twice, Unknown, Count, Memory as ConfigMemory}
-use Rattle.cfg_model.specs.FaultTexts.{fault_text}
+use Rattle.cfg_model.specs.declared.fault.CfgFault.TheVariants.{NotToml, Field, Twice, Unknown}
+use Rattle.cfg_model.specs.declared.fault.CfgFault.TheVariants.{Count, Memory as ConfigMemory}
+use Rattle.cfg_model.specs.FaultTexts.{config_fault_text}
 use Rattle.rule_lang.specs.declared.fault.RuleFault.{RuleFault}
 use Rattle.rule_lang.specs.declared.fault.RuleFault.TheVariants.{Wrong, Memory as RulesMemory}
-use Rattle.rule_lang.specs.FaultTexts.{fault_text as rule_fault_text}
+use Rattle.rule_lang.specs.FaultTexts.{rule_fault_text}
 use Rattle.reg_io.specs.declared.shelf.ShelfFault.{ShelfFault}
-use Rattle.reg_io.specs.declared.shelf.ShelfFault.TheVariants.{Failed, TooLong, Memory as ShelfMemory}
+use Rattle.reg_io.specs.declared.shelf.ShelfFault.TheVariants.{Failed, TooLong}
+use Rattle.reg_io.specs.declared.shelf.ShelfFault.TheVariants.{Memory as ShelfMemory}
 use Rattle.desk_run.specs.declared.run.RunEnd.{RunEnd}
-use Rattle.desk_run.specs.declared.run.RunEnd.TheVariants.{Memory as RunMemory, Read as RunRead, Write as RunWrite, InputTooLong as RunTooLong}
+use Rattle.desk_run.specs.declared.run.RunEnd.TheVariants.{Memory as RunMemory, Read as RunRead}
+use Rattle.desk_run.specs.declared.run.RunEnd.TheVariants.{Write as RunWrite}
+use Rattle.desk_run.specs.declared.run.RunEnd.TheVariants.{InputTooLong as RunTooLong}
 use Rattle.desk_run.specs.declared.fault.Fault.{Fault}
-use Rattle.desk_run.specs.declared.fault.Fault.TheVariants.{Usage, Configuration, Rules, Memory, Read, Write, File, FileTooLong, InputTooLong}
+use Rattle.desk_run.specs.declared.fault.Fault.TheVariants.{Usage, Configuration, Rules, Memory}
+use Rattle.desk_run.specs.declared.fault.Fault.TheVariants.{Read, Write, File, FileTooLong}
+use Rattle.desk_run.specs.declared.fault.Fault.TheVariants.{InputTooLong}
 
 -- the status of a fault
 abbrev pub status_of : Fault → ℕ
@@ -70,7 +76,8 @@ program_line front text = codes "regdesk: " ++ (front ++ (text ++ 10 ∷ []))
 -- the line of a fault
 abbrev pub fault_line : List (List ℕ) → Fault → List ℕ
 fault_line words Usage = program_line (codes "usage: ") (codes "regdesk COMMAND")
-fault_line words (Configuration fault) = program_line (codes "configuration: ") (fault_text fault)
+fault_line words (Configuration fault) =
+    program_line (codes "configuration: ") (config_fault_text fault)
 fault_line words (Rules fault) = program_line (codes "rules: ") (rule_fault_text fault)
 fault_line words Memory = program_line [] (codes "memory")
 fault_line words Read = program_line [] (codes "read")
@@ -78,15 +85,3 @@ fault_line words Write = program_line [] (codes "write")
 fault_line words File = program_line (codes "file ") (file_word words)
 fault_line words FileTooLong = program_line [] (codes "too long")
 fault_line words InputTooLong = program_line [] (codes "too long")
-
--- whether the line of a fault is put together in memory
-abbrev pub line_is_made : Fault → Bool
-line_is_made Usage = false
-line_is_made (Configuration fault) = true
-line_is_made (Rules fault) = true
-line_is_made Memory = false
-line_is_made Read = false
-line_is_made Write = false
-line_is_made File = true
-line_is_made FileTooLong = false
-line_is_made InputTooLong = false

@@ -1,14 +1,22 @@
-//! The line of a fault on the error output.
-ghost use Rattle.std.specs.Prelude.{◌≡◌, ◌⊎◌, IfOk, map, string_bytes};
+//! The line of a fault on the error output, written in pieces so that it takes no memory.
+ghost use Rattle.std.specs.Prelude.{◌≡◌, codes, map, string_bytes, OnOk, OnErr};
+ghost use Rattle.std.specs.List.{flat_map};
+ghost use Rattle.std.specs.Io.KnownBytes.{Appends};
+ghost use Rattle.reg_io.specs.Counts.{AppendsPrefix, HasCause};
+ghost use Rattle.reg_base.specs.Numbers.{number_text};
+ghost use Rattle.cfg_model.specs.FaultTexts.{count_text, config_fault_text};
+ghost use Rattle.rule_lang.specs.FaultTexts.{rule_fault_text, words as rule_words};
 ghost use Rattle.desk_run.specs.Statuses.{file_word, program_line};
 ghost use Rattle.desk_run.specs.Ends.{Complains, WritesLine};
 
 use crate::fault::Fault;
-use reg_io::{Sink, write_all};
-use std::alloc::{AllocError, Global};
+use cfg_model::CfgFault;
+use itoa::Buffer;
+use reg_io::{Sink, SinkFault, write_all};
+use rule_lang::RuleFault;
 
-/// Writes the line of the end's fault, where there is one. A fault of the writing is not told.
-pub fn complain<E: Sink>(alloc: Global, words: &[String], end: &Result<(), Fault>, err: &mut E)
+/// Writes the line of the end's fault, where there is one. A fault of the writing is not reported.
+pub fn complain<E: Sink>(words: &[String], end: &Result<(), Fault>, err: &mut E)
     ensures { Complains (map (λ w. string_bytes w) words.now) end.now
         (E.taken err.old) (E.taken err.new) (E.write_faults err.old) (E.write_faults err.new) }
 {
@@ -16,51 +24,121 @@ pub fn complain<E: Sink>(alloc: Global, words: &[String], end: &Result<(), Fault
         return;
     };
     match fault {
-        Fault::Usage => write_line(err, b"regdesk: usage: regdesk COMMAND\n"),
-        Fault::Configuration { fault } => {
-            if let Ok(text) = fault.text(alloc) {
-                write_made(alloc, "configuration: ", text.as_str(), err);
-            }
-        }
-        Fault::Rules { fault } => {
-            if let Ok(text) = fault.text(alloc) {
-                write_made(alloc, "rules: ", text.as_str(), err);
-            }
-        }
-        Fault::Memory => write_line(err, b"regdesk: memory\n"),
-        Fault::Read => write_line(err, b"regdesk: read\n"),
-        Fault::Write => write_line(err, b"regdesk: write\n"),
-        Fault::File => write_made(alloc, "file ", file_word(words), err),
-        Fault::FileTooLong => write_line(err, b"regdesk: too long\n"),
-        Fault::InputTooLong => write_line(err, b"regdesk: too long\n"),
+        Fault::Usage => write_line(err, &["regdesk: usage: regdesk COMMAND\n"]),
+        Fault::Configuration { fault } => write_config_fault(err, fault),
+        Fault::Rules { fault } => write_rules_fault(err, fault),
+        Fault::Memory => write_line(err, &["regdesk: memory\n"]),
+        Fault::Read => write_line(err, &["regdesk: read\n"]),
+        Fault::Write => write_line(err, &["regdesk: write\n"]),
+        Fault::File => write_line(err, &["regdesk: file ", file_word(words), "\n"]),
+        Fault::FileTooLong => write_line(err, &["regdesk: too long\n"]),
+        Fault::InputTooLong => write_line(err, &["regdesk: too long\n"]),
     }
 }
 
-fn write_line<E: Sink>(err: &mut E, line: &[u8])
-    ensures { WritesLine line.now (E.taken err.old) (E.taken err.new)
-        (E.write_faults err.old) (E.write_faults err.new) }
+// Writes the line of a configuration that is refused.
+fn write_config_fault<E: Sink>(err: &mut E, fault: &CfgFault)
+    ensures { WritesLine (program_line (codes "configuration: ") (config_fault_text fault.now))
+        (E.taken err.old) (E.taken err.new) (E.write_faults err.old) (E.write_faults err.new) }
 {
-    match write_all(err, line) {
+    match fault {
+        CfgFault::NotToml => write_line(err, &["regdesk: configuration: 1 NotToml\n"]),
+        CfgFault::Field { path } => {
+            write_line(
+                err,
+                &["regdesk: configuration: 2 Field ", path.as_str(), "\n"],
+            )
+        }
+        CfgFault::Twice { name } => {
+            write_line(
+                err,
+                &["regdesk: configuration: 3 Twice ", name.as_str(), "\n"],
+            )
+        }
+        CfgFault::Unknown { name } => {
+            write_line(
+                err,
+                &["regdesk: configuration: 4 Unknown ", name.as_str(), "\n"],
+            )
+        }
+        CfgFault::Count { what, number } => {
+            write_count_fault(err, what.as_str(), *number as u64)
+        }
+        CfgFault::Memory => write_line(err, &["regdesk: configuration: 0 Memory\n"]),
+    }
+}
+
+// Writes the line of a limit that is passed at a path.
+fn write_count_fault<E: Sink>(err: &mut E, what: &str, number: u64)
+    ensures { WritesLine (program_line (codes "configuration: ") (count_text what.now number))
+        (E.taken err.old) (E.taken err.new) (E.write_faults err.old) (E.write_faults err.new) }
+{
+    let mut buffer = Buffer::new();
+    let number = digits(&mut buffer, number);
+    write_line(
+        err,
+        &["regdesk: configuration: 5 Count ", what, " ", number, "\n"],
+    );
+}
+
+// Writes the line of rules that are refused.
+fn write_rules_fault<E: Sink>(err: &mut E, fault: &RuleFault)
+    ensures { WritesLine (program_line (codes "rules: ") (rule_fault_text fault.now))
+        (E.taken err.old) (E.taken err.new) (E.write_faults err.old) (E.write_faults err.new) }
+{
+    match fault {
+        RuleFault::Wrong { kind, place, why } => {
+            write_wrong_rule(err, kind.as_str(), *place as u64, why.number())
+        }
+        RuleFault::Memory => write_line(err, &["regdesk: rules: memory\n"]),
+    }
+}
+
+// Writes the line of a rule that is wrong: document type, place and number of the reason.
+fn write_wrong_rule<E: Sink>(err: &mut E, kind: &str, place: u64, reason: u8)
+    ensures { WritesLine (program_line (codes "rules: ") (rule_words kind.now place reason))
+        (E.taken err.old) (E.taken err.new) (E.write_faults err.old) (E.write_faults err.new) }
+{
+    let mut place_buffer = Buffer::new();
+    let mut reason_buffer = Buffer::new();
+    let place = digits(&mut place_buffer, place);
+    let reason = digits(&mut reason_buffer, u64::from(reason));
+    write_line(
+        err,
+        &["regdesk: rules: ", kind, " ", place, " ", reason, "\n"],
+    );
+}
+
+// The digits of a number, without memory.
+fn digits(buffer: &mut Buffer, number: u64) -> &str
+    ensures { result.now ≡ number_text number }
+{
+    buffer.format(number)
+}
+
+// Writes the pieces of a line, and lets a fault of the writing be.
+fn write_line<E: Sink>(err: &mut E, pieces: &[&str])
+    ensures { WritesLine (flat_map (λ piece. piece.now) pieces.now)
+        (E.taken err.old) (E.taken err.new) (E.write_faults err.old) (E.write_faults err.new) }
+{
+    match write_pieces(err, pieces) {
         Ok(()) => {}
         Err(_) => {}
     }
 }
 
-// Writes a line that is put together, or nothing where memory is refused.
-fn write_made<E: Sink>(alloc: Global, front: &str, text: &str, err: &mut E)
-    ensures { WritesLine (program_line front.now text.now) (E.taken err.old) (E.taken err.new)
-        (E.write_faults err.old) (E.write_faults err.new)
-        ⊎ (E.taken err.new ≡ E.taken err.old) }
+// Writes the pieces one after another, up to the first that is not taken whole.
+fn write_pieces<E: Sink>(err: &mut E, pieces: &[&str]) -> Result<(), SinkFault>
+    ensures ok { OnOk result (Appends (E.taken err.old) (E.taken err.new)
+        (flat_map (λ piece. piece.now) pieces.now)) }
+    ensures front { OnErr result (AppendsPrefix (E.taken err.old) (E.taken err.new)
+        (flat_map (λ piece. piece.now) pieces.now)) }
+    ensures cause { HasCause (E.write_faults err.old) (E.write_faults err.new) result }
 {
-    if let Ok(line) = made_line(alloc, front, text) {
-        write_line(err, line.as_bytes());
+    'written: for piece in pieces {
+        write_all(err, piece.as_bytes())?;
     }
-}
-
-fn made_line(alloc: Global, front: &str, text: &str) -> Result<String, AllocError>
-    ensures { IfOk result (λ line. string_bytes line ≡ program_line front.now text.now) }
-{
-    format!(in alloc; "regdesk: {front}{text}\n")
+    Ok(())
 }
 
 // The file that the words name.

@@ -1,6 +1,7 @@
 //! Why a top call did not end well: its status and its line on the error output.
 ghost use Rattle.std.specs.Prelude.{◌≡◌};
-ghost use Rattle.desk_run.specs.Statuses.{status_of, end_status, file_fault, config_fault, rules_fault, run_fault};
+ghost use Rattle.desk_run.specs.Statuses.{status_of, end_status, file_fault, config_fault};
+ghost use Rattle.desk_run.specs.Statuses.{rules_fault, run_fault};
 
 use crate::run::RunEnd;
 use cfg_model::CfgFault;

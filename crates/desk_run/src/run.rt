@@ -1,9 +1,9 @@
 //! The run of a desk: each line of an input is answered before the next is read.
 ghost use Rattle.std.specs.Prelude.{◌≡◌, ◌≤◌, None, OnSome};
 ghost use Rattle.reg_io.specs.LineStates.{ahead};
-ghost use Rattle.desk_run.specs.Runs.{Runs};
+ghost use Rattle.desk_run.specs.Runs.{Runs, streams_of};
 ghost use Rattle.desk_run.specs.declared.run.RunEnd.TheVariants.{Memory, Write};
-ghost use Rattle.desk_run.specs.Steps.{Answered, end_of};
+ghost use Rattle.desk_run.specs.AnsweredLines.{Answered, end_of};
 
 use desk_core::{Desk, StepEnd, answer_line};
 use reg_base::Memory;
@@ -34,19 +34,9 @@ pub fn run_lines<S: Source, O: Sink>(
     input: &mut S,
     out: &mut O,
 ) -> Result<(), RunEnd>
-    ensures runs { Runs desk.old desk.new
-        (record {
-          left = S.left input.old;
-          read_faults = S.read_faults input.old;
-          taken = O.taken out.old;
-          write_faults = O.write_faults out.old;
-        })
-        (record {
-          left = S.left input.new;
-          read_faults = S.read_faults input.new;
-          taken = O.taken out.new;
-          write_faults = O.write_faults out.new;
-        }) result }
+    ensures runs { Runs desk.old.desk desk.new.desk
+        (streams_of S.left S.read_faults O.taken O.write_faults input.old out.old)
+        (streams_of S.left S.read_faults O.taken O.write_faults input.new out.new) result }
 {
     let mut lines = Lines::new(alloc, input, MOST_INPUT_BYTES)?;
     let ran = answer_lines(alloc, desk, &mut lines, out);
@@ -63,19 +53,10 @@ fn answer_lines<S: Source, O: Sink>(
 ) -> Result<(), RunEnd>
     requires fault { lines.old.fault ≡ None }
     requires room { lines.old.room ≡ MOST_INPUT_BYTES }
-    ensures runs { Runs desk.old desk.new
-        (record {
-          left = ahead S.left lines.old;
-          read_faults = S.read_faults lines.old.source;
-          taken = O.taken out.old;
-          write_faults = O.write_faults out.old;
-        })
-        (record {
-          left = S.left lines.new.source;
-          read_faults = S.read_faults lines.new.source;
-          taken = O.taken out.new;
-          write_faults = O.write_faults out.new;
-        }) result }
+    ensures runs { Runs desk.old.desk desk.new.desk
+        (record (streams_of S.left S.read_faults O.taken O.write_faults lines.old.source out.old)
+        { left = ahead S.left lines.old })
+        (streams_of S.left S.read_faults O.taken O.write_faults lines.new.source out.new) result }
     ensures same { S.borrow_name lines.new.source ≡ S.borrow_name lines.old.source }
 {
     'answered: while let Some(line) = lines.next_line()? {
@@ -86,7 +67,7 @@ fn answer_lines<S: Source, O: Sink>(
 
 // Answers one line: its reply is written whole, in one call.
 fn answer<O: Sink>(alloc: Global, desk: &mut Desk, line: Line, out: &mut O) -> Result<(), RunEnd>
-    ensures answered { Answered desk.old desk.new line (O.taken out.old) (O.taken out.new)
+    ensures answered { Answered desk.old.desk desk.new.desk line (O.taken out.old) (O.taken out.new)
         (O.write_faults out.old) (O.write_faults out.new) result }
     ensures later { O.write_faults out.old ≤ O.write_faults out.new }
 {

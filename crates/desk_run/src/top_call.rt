@@ -1,10 +1,11 @@
 //! The top call: what the words ask, on the objects that are handed in.
-ghost use Rattle.std.specs.Prelude.{◌≡◌, ◌↔◌, List, map, string_bytes};
-ghost use Rattle.reg_io.specs.declared.line.Line.{Line};
+ghost use Rattle.std.specs.Prelude.{◌≡◌, ◌↔◌, map, string_bytes};
 ghost use Rattle.cfg_model.specs.declared.config.Config.{Config};
-ghost use Rattle.desk_core.specs.State.{first_desk};
-ghost use Rattle.desk_core.specs.Laws.{BalancesHold};
-ghost use Rattle.desk_run.specs.Ends.{first_opened, AskNothing, Ends, Finishes, ReadsConfig, RunsFile, RunsWith};
+ghost use Rattle.desk_run.specs.Inputs.{desk_under};
+ghost use Rattle.desk_run.specs.Ends.{AnswersBalances, AskNothing, Ends, Finishes, HoldsConfig};
+ghost use Rattle.desk_run.specs.ConfigFiles.{ReadsConfig, shelf_of};
+ghost use Rattle.desk_run.specs.Ends.{RunsFile, RunsWith};
+ghost use Rattle.desk_run.specs.Runs.{streams_of};
 
 use crate::complaint::complain;
 use crate::fault::{Fault, end_status};
@@ -40,20 +41,10 @@ pub fn desk_main<R: Threads + Sync, F: Shelf, D: Disk + Send, S: Source, O: Sink
     err: &mut E,
 ) -> Finish<D>
     ensures ends { Finishes (map (λ w. string_bytes w) words.now)
-        (record { files = F.files shelf.old; faults = F.faults shelf.old })
-        (record { files = F.files shelf.new; faults = F.faults shelf.new })
-        (record {
-          left = S.left input.old;
-          read_faults = S.read_faults input.old;
-          taken = O.taken out.old;
-          write_faults = O.write_faults out.old;
-        })
-        (record {
-          left = S.left input.new;
-          read_faults = S.read_faults input.new;
-          taken = O.taken out.new;
-          write_faults = O.write_faults out.new;
-        })
+        (shelf_of F.files F.faults shelf.old)
+        (shelf_of F.files F.faults shelf.new)
+        (streams_of S.left S.read_faults O.taken O.write_faults input.old out.old)
+        (streams_of S.left S.read_faults O.taken O.write_faults input.new out.new)
         (E.taken err.old) (E.taken err.new) (E.write_faults err.old) (E.write_faults err.new)
         result.status }
 
@@ -61,13 +52,18 @@ pub fn desk_main<R: Threads + Sync, F: Shelf, D: Disk + Send, S: Source, O: Sink
     ensures words { (result.status ≡ 2) ↔ AskNothing (map (λ w. string_bytes w) words.now) }
     ensures disk { result.disk ≡ disk }
 
-    // Each accepted balance among the lines of an input is the sum over the records at its point.
-    ensures balances { (config : Config) (lines : List Line)
-        → BalancesHold (first_opened config).setting first_desk lines }
+    // Each accepted balance that was answered under the file's configuration is the sum over the
+    // records at its place.
+    ensures balances { (config : Config)
+        → HoldsConfig (map (λ w. string_bytes w) words.now)
+        (shelf_of F.files F.faults shelf.old) config
+        → AnswersBalances (desk_under config)
+        (streams_of S.left S.read_faults O.taken O.write_faults input.old out.old)
+        (streams_of S.left S.read_faults O.taken O.write_faults input.new out.new) }
 {
     let _ = rt;
     let end = run_words(alloc, words, shelf, input, out);
-    complain(alloc, words, &end, err);
+    complain(words, &end, err);
     Finish {
         status: end_status(&end),
         disk,
@@ -82,20 +78,10 @@ fn run_words<F: Shelf, S: Source, O: Sink>(
     out: &mut O,
 ) -> Result<(), Fault>
     ensures ends { Ends (map (λ w. string_bytes w) words.now)
-        (record { files = F.files shelf.old; faults = F.faults shelf.old })
-        (record { files = F.files shelf.new; faults = F.faults shelf.new })
-        (record {
-          left = S.left input.old;
-          read_faults = S.read_faults input.old;
-          taken = O.taken out.old;
-          write_faults = O.write_faults out.old;
-        })
-        (record {
-          left = S.left input.new;
-          read_faults = S.read_faults input.new;
-          taken = O.taken out.new;
-          write_faults = O.write_faults out.new;
-        }) result }
+        (shelf_of F.files F.faults shelf.old)
+        (shelf_of F.files F.faults shelf.new)
+        (streams_of S.left S.read_faults O.taken O.write_faults input.old out.old)
+        (streams_of S.left S.read_faults O.taken O.write_faults input.new out.new) result }
 {
     match words {
         [run, name] if run.as_str() == "run" => run_file(alloc, name.as_str(), shelf, input, out),
@@ -112,27 +98,17 @@ fn run_file<F: Shelf, S: Source, O: Sink>(
     out: &mut O,
 ) -> Result<(), Fault>
     ensures runs { RunsFile name.now
-        (record { files = F.files shelf.old; faults = F.faults shelf.old })
-        (record { files = F.files shelf.new; faults = F.faults shelf.new })
-        (record {
-          left = S.left input.old;
-          read_faults = S.read_faults input.old;
-          taken = O.taken out.old;
-          write_faults = O.write_faults out.old;
-        })
-        (record {
-          left = S.left input.new;
-          read_faults = S.read_faults input.new;
-          taken = O.taken out.new;
-          write_faults = O.write_faults out.new;
-        }) result }
+        (shelf_of F.files F.faults shelf.old)
+        (shelf_of F.files F.faults shelf.new)
+        (streams_of S.left S.read_faults O.taken O.write_faults input.old out.old)
+        (streams_of S.left S.read_faults O.taken O.write_faults input.new out.new) result }
 {
     let config = read_config(alloc, name, shelf)?;
     run_config(alloc, config, input, out)?;
     Ok(())
 }
 
-// Runs the lines of the input at a desk that is opened with the configuration.
+// Runs the lines of the input at a desk that is desk with the configuration.
 fn run_config<S: Source, O: Sink>(
     alloc: Global,
     config: Config,
@@ -140,18 +116,8 @@ fn run_config<S: Source, O: Sink>(
     out: &mut O,
 ) -> Result<(), RunEnd>
     ensures runs { RunsWith config
-        (record {
-          left = S.left input.old;
-          read_faults = S.read_faults input.old;
-          taken = O.taken out.old;
-          write_faults = O.write_faults out.old;
-        })
-        (record {
-          left = S.left input.new;
-          read_faults = S.read_faults input.new;
-          taken = O.taken out.new;
-          write_faults = O.write_faults out.new;
-        }) result }
+        (streams_of S.left S.read_faults O.taken O.write_faults input.old out.old)
+        (streams_of S.left S.read_faults O.taken O.write_faults input.new out.new) result }
 {
     let mut desk = Desk::open(alloc, config);
     run_lines(alloc, &mut desk, input, out)
@@ -159,8 +125,8 @@ fn run_config<S: Source, O: Sink>(
 
 fn read_config<F: Shelf>(alloc: Global, name: &str, shelf: &mut F) -> Result<Config, Fault>
     ensures reads { ReadsConfig name.now
-        (record { files = F.files shelf.old; faults = F.faults shelf.old })
-        (record { files = F.files shelf.new; faults = F.faults shelf.new }) result }
+        (shelf_of F.files F.faults shelf.old)
+        (shelf_of F.files F.faults shelf.new) result }
 {
     let bytes = shelf.read_file(alloc, name, MOST_CONFIG_BYTES)?;
     let config = Config::read(alloc, bytes.as_slice())?;

@@ -1,5 +1,5 @@
-//! Each call fails in turn, reads and writes being cut into pieces of several sizes: the status, and
-//! exactly what was written before it. Behind the last call a run is good.
+//! Each call fails in turn, reads and writes being cut into pieces of several sizes: the status,
+//! and exactly what was written before it. Behind the last call a run is good.
 use crate::shop::{Call, Difference, End, Given, NAILS, POSTED, RECEIPT, SHOP, leaves};
 use std::alloc::{AllocError, Global};
 use std::thread::Threads;
@@ -8,10 +8,10 @@ const BALANCE: &str = "{\"clerk\":\"anna\",\"op\":\"balance\",\"register\":\"goo
 
 const NO_OBJECT: &str = "{\"refused\":{\"code\":1,\"kind\":3,\"name\":\"BadLine\"}}\n";
 
-/// How many bytes a read gives, and a write takes, at the most; the last is a whole line.
+// How many bytes a read gives, and a write takes, at the most; the last is a whole line.
 const PIECES: [usize; 6] = [1, 2, 3, 5, 7, RECEIPT.len() + 1];
 
-/// The replies to the lines of the input, in order.
+// The replies to the lines of the input, in order.
 const REPLIES: [&str; 6] = [
     POSTED,
     NO_OBJECT,
@@ -21,22 +21,23 @@ const REPLIES: [&str; 6] = [
     "{\"ok\":{\"active\":true,\"doc\":2,\"state\":\"posted\"}}\n",
 ];
 
-/// The input, and the replies to it one after another.
+// The input, and the replies to it one after another.
 #[derive(Drop)]
 struct Texts {
     input: String,
     replies: String,
 }
 
-/// An input of four lines that are answered and two that are not, with each end of a line.
+// An input of four lines that are answered and two that are not, with each end of a line.
 fn input(alloc: Global) -> Result<String, AllocError> {
     format!(in alloc; "{RECEIPT}\n[]\r\n \t\r\n\n{BALANCE}\r\n{RECEIPT}")
 }
 
-fn replies(alloc: Global) -> Result<String, AllocError> {
+// Texts one after another.
+fn joined(alloc: Global, parts: &[&str]) -> Result<String, AllocError> {
     let mut all = String::new(alloc);
-    for reply in REPLIES {
-        all.push_str(reply)?;
+    for part in parts {
+        all.push_str(part)?;
     }
     Ok(all)
 }
@@ -44,11 +45,11 @@ fn replies(alloc: Global) -> Result<String, AllocError> {
 fn make_texts(alloc: Global) -> Result<Texts, AllocError> {
     Ok(Texts {
         input: input(alloc)?,
-        replies: replies(alloc)?,
+        replies: joined(alloc, &REPLIES)?,
     })
 }
 
-/// How many bytes the replies to so many first lines have.
+// How many bytes the replies to so many first lines have.
 fn replies_len(lines: usize) -> usize {
     let mut len = 0_usize;
     for reply in REPLIES.iter().take(lines) {
@@ -57,31 +58,31 @@ fn replies_len(lines: usize) -> usize {
     len
 }
 
-/// How many bytes so many first writes take, where each reply is written in pieces of its own.
-fn written_len(mut writes: usize, piece: usize) -> usize {
+// How many bytes so many first writes take, where each part is written in pieces of its own.
+fn written_len(parts: &[&str], mut writes: usize, piece: usize) -> usize {
     let mut len = 0_usize;
-    for reply in REPLIES {
-        let pieces = reply.len().div_ceil(piece.max(1));
+    for part in parts {
+        let pieces = part.len().div_ceil(piece.max(1));
         if writes < pieces {
             return len.saturating_add(writes.saturating_mul(piece));
         }
         writes -= pieces;
-        len = len.saturating_add(reply.len());
+        len = len.saturating_add(part.len());
     }
     len
 }
 
-/// How many line feeds the first bytes have.
+// How many line feeds the first bytes have.
 fn line_feeds(bytes: &[u8], first: usize) -> usize {
     bytes.iter().take(first).filter(|b| **b == b'\n').count()
 }
 
-/// The first bytes, so many of them.
+// The first bytes, so many of them.
 fn front(bytes: &[u8], len: usize) -> &[u8] {
     bytes.get(..len).unwrap_or(bytes)
 }
 
-/// A run of the input in such pieces, of which the call of this number fails.
+// A run of the input in such pieces, of which the call of this number fails.
 fn given(texts: &Texts, piece: usize, call: Call, number: usize) -> Given<'_> {
     Given {
         config: SHOP,
@@ -92,7 +93,7 @@ fn given(texts: &Texts, piece: usize, call: Call, number: usize) -> Given<'_> {
     }
 }
 
-/// The end of a run that wrote so many first bytes of the replies.
+// The end of a run that wrote so many first bytes of the replies.
 fn end<'a>(texts: &'a Texts, written: usize, status: u8, line: &'a str) -> End<'a> {
     End {
         status,
@@ -101,7 +102,7 @@ fn end<'a>(texts: &'a Texts, written: usize, status: u8, line: &'a str) -> End<'
     }
 }
 
-/// The reads of the input in such pieces fail, one a run, and at last one that is not made.
+// The reads of the input in such pieces fail, one a run, and at last one that is not made.
 fn reads_fail<R: Threads + Sync>(
     rt: &R,
     alloc: Global,
@@ -130,7 +131,7 @@ fn a_failed_read_leaves_the_answers_to_the_whole_lines_before_it(
     Ok(())
 }
 
-/// The writes of the replies in such pieces fail, one a run, until one is not made.
+// The writes of the replies in such pieces fail, one a run, until one is not made.
 fn writes_fail<R: Threads + Sync>(
     rt: &R,
     alloc: Global,
@@ -139,7 +140,7 @@ fn writes_fail<R: Threads + Sync>(
 ) -> Result<(), Difference> {
     for write in 1..=1000_usize {
         let given = given(texts, piece, Call::Write, write);
-        let written = written_len(write - 1, piece);
+        let written = written_len(&REPLIES, write - 1, piece);
         if written == texts.replies.len() {
             return leaves(rt, alloc, &given, &end(texts, written, 0, ""));
         }
@@ -158,7 +159,7 @@ fn a_failed_write_leaves_a_front_of_the_answers(rt: HostRuntime) -> Result<(), D
     Ok(())
 }
 
-/// The read of the file fails, and then one that is not made.
+// The read of the file fails, and then one that is not made.
 fn file_fails<R: Threads + Sync>(rt: &R, alloc: Global, texts: &Texts) -> Result<(), Difference> {
     let missing = end(texts, 0, 9, "regdesk: file shop.toml\n");
     leaves(rt, alloc, &given(texts, 7, Call::ReadFile, 1), &missing)?;
@@ -172,38 +173,64 @@ fn a_file_that_cannot_be_read_leaves_nothing_written(rt: HostRuntime) -> Result<
     file_fails(&rt, rt.alloc(), &texts)
 }
 
-const UNKNOWN_KEY: &str = "regdesk: configuration: 4 Unknown x\n";
+// A configuration, the calls that fail beside the writing of the line, the status, and the line as
+// it is written, part by part.
+type Refused = (&'static str, Call, u8, [&'static str; 3]);
 
-/// The writes of the line of a refused configuration in such pieces fail, one a run, and at last
-/// one that is not made.
+const REFUSED: [Refused; 2] = [
+    (
+        "x = 1",
+        Call::WriteLine,
+        3,
+        ["regdesk: configuration: 4 Unknown ", "x", "\n"],
+    ),
+    (
+        SHOP,
+        Call::ReadFileAndWriteLine,
+        9,
+        ["regdesk: file ", "shop.toml", "\n"],
+    ),
+];
+
+// The writes of a line in such pieces fail, one a run, until one is not made.
 fn line_writes_fail<R: Threads + Sync>(
     rt: &R,
     alloc: Global,
+    refused: &Refused,
     piece: usize,
 ) -> Result<(), Difference> {
-    let writes = UNKNOWN_KEY.len().div_ceil(piece.max(1));
-    for write in 1..=writes.saturating_add(1) {
+    let (config, call, status, parts) = refused;
+    let line = joined(alloc, parts)?;
+    for write in 1..=100_usize {
         let given = Given {
-            config: "x = 1",
+            config,
             input: RECEIPT.as_bytes(),
             piece,
-            call: Call::WriteLine,
+            call: *call,
             number: write,
         };
+        let written = written_len(parts, write - 1, piece);
         let end = End {
-            status: 3,
+            status: *status,
             out: b"",
-            line: front(UNKNOWN_KEY.as_bytes(), (write - 1).saturating_mul(piece)),
+            line: front(line.as_bytes(), written),
         };
         leaves(rt, alloc, &given, &end)?;
+        if written == line.len() {
+            return Ok(());
+        }
     }
-    Ok(())
+    Err(Difference::Endless)
 }
 
 #[test]
-fn a_failed_write_of_the_line_changes_no_status(rt: HostRuntime) -> Result<(), Difference> {
-    for piece in PIECES {
-        line_writes_fail(&rt, rt.alloc(), piece)?;
+fn a_failed_write_of_the_line_leaves_its_front_and_the_status(
+    rt: HostRuntime,
+) -> Result<(), Difference> {
+    for refused in &REFUSED {
+        for piece in PIECES {
+            line_writes_fail(&rt, rt.alloc(), refused, piece)?;
+        }
     }
     Ok(())
 }

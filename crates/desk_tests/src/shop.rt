@@ -20,29 +20,31 @@ pub(crate) const POSTED: &str = "{\"ok\":{\"active\":true,\"doc\":1,\"state\":\"
 pub(crate) const NAILS: &str =
     "{\"ok\":{\"rows\":[{\"group\":[\"nail\"],\"sums\":[\"10.000\",\"50.00\"]}]}}\n";
 
-/// What a run is given, and which call of it fails.
+// What a run is given, and which call of it fails.
 #[derive(Clone, Copy)]
 pub(crate) struct Given<'a> {
     pub(crate) config: &'a str,
     pub(crate) input: &'a [u8],
-    /// How many bytes a read gives, and a write takes, at the most.
+    // How many bytes a read gives, and a write takes, at the most.
     pub(crate) piece: usize,
     pub(crate) call: Call,
-    /// The number of the call that fails, from 1.
+    // The number of the call that fails, from 1.
     pub(crate) number: usize,
 }
 
-/// A call on one of the objects of a run.
+// A call on one of the objects of a run.
 #[derive(Clone, Copy)]
 pub(crate) enum Call {
     ReadFile,
     Read,
     Write,
     WriteLine,
+    /// The first read of a file, and a write of the line.
+    ReadFileAndWriteLine,
 }
 
 impl Given<'_> {
-    /// The number of the call that fails, of each in order; no call has the number 0.
+    // The number of the call that fails, of each in order; no call has the number 0.
     fn numbers(&self) -> [u64; 4] {
         let number = self.number as u64;
         match self.call {
@@ -50,11 +52,12 @@ impl Given<'_> {
             Call::Read => [0, number, 0, 0],
             Call::Write => [0, 0, number, 0],
             Call::WriteLine => [0, 0, 0, number],
+            Call::ReadFileAndWriteLine => [1, 0, 0, number],
         }
     }
 }
 
-/// What a run leaves: its status, its output, and its line on the error output.
+// What a run leaves: its status, its output, and its line on the error output.
 #[derive(Clone, Copy)]
 pub(crate) struct End<'a> {
     pub(crate) status: u8,
@@ -62,7 +65,7 @@ pub(crate) struct End<'a> {
     pub(crate) line: &'a [u8],
 }
 
-/// Why a test failed.
+// Why a test failed.
 #[derive(Clone, Copy, Debug)]
 pub(crate) enum Difference {
     /// The run in such pieces whose call of this number fails left something else than its end.
@@ -121,7 +124,7 @@ fn words(alloc: Global) -> Result<Vec<String>, AllocError> {
     Ok(words)
 }
 
-/// The output and the error output of a run.
+// The output and the error output of a run.
 #[derive(Drop)]
 struct Outputs {
     out: FailingSink,
@@ -136,7 +139,7 @@ fn make_outputs(alloc: Global, given: &Given) -> Result<Outputs, AllocError> {
     })
 }
 
-/// The status of a run on any objects.
+// The status of a run on any objects.
 fn run_on<R: Threads + Sync, F: Shelf, S: Source, O: Sink, E: Sink>(
     rt: &R,
     alloc: Global,
@@ -150,7 +153,7 @@ fn run_on<R: Threads + Sync, F: Shelf, S: Source, O: Sink, E: Sink>(
     desk_main(rt, alloc, words, shelf, disk, input, out, err).status
 }
 
-/// The status of a run of what is given, from this shelf.
+// The status of a run of what is given, from this shelf.
 fn run_from<R: Threads + Sync>(
     rt: &R,
     alloc: Global,
@@ -165,7 +168,7 @@ fn run_from<R: Threads + Sync>(
     Ok(run_on(rt, alloc, words.as_slice(), shelf, &mut input, out, err))
 }
 
-/// The status of a run of what is given.
+// The status of a run of what is given.
 fn run<R: Threads + Sync>(
     rt: &R,
     alloc: Global,
@@ -177,14 +180,14 @@ fn run<R: Threads + Sync>(
     run_from(rt, alloc, given, &mut shelf, outputs)
 }
 
-/// Whether a run that gave this left just the end on its outputs.
+// Whether a run that gave this left just the end on its outputs.
 fn is_end(ran: Result<u8, AllocError>, outputs: &Outputs, end: &End) -> bool {
     ran == Ok(end.status)
         && outputs.out.sink.bytes.as_slice() == end.out
         && outputs.err.sink.bytes.as_slice() == end.line
 }
 
-/// Fails where a run of what is given leaves something else than the end.
+// Fails where a run of what is given leaves something else than the end.
 pub(crate) fn leaves<R: Threads + Sync>(
     rt: &R,
     alloc: Global,

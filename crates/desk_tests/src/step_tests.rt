@@ -1,24 +1,21 @@
 //! A step of the desk alone, of calls that each have ample memory.
+ghost use Rattle.std.specs.Prelude.{IfSome};
+ghost use Rattle.desk_words.specs.ReplyTexts.{HasScales};
+
 use crate::shop::{POSTED, RECEIPT, SHOP};
 use cfg_model::Config;
 use desk_core::Desk;
 use desk_words::{Reply, Request};
-use reg_base::List;
-use reg_io::Line;
+use reg_base::{Line, List};
 use std::alloc::Global;
 use std::test::Fail;
-
-fn request(alloc: Global) -> Option<Request> {
-    let bytes = List::from_slice(alloc, RECEIPT.as_bytes()).ok()?;
-    Request::read(alloc, &Line::Text { bytes }).ok()
-}
 
 fn desk(alloc: Global) -> Option<Desk> {
     let config = Config::read(alloc, SHOP.as_bytes()).ok()?;
     Some(Desk::open(alloc, config))
 }
 
-/// The text of the reply of a desk to a receipt.
+// The text of the reply of a desk to a receipt.
 fn reply_text(alloc: Global) -> Option<Vec<u8>> {
     let reply = reply(alloc)?;
     let mut text = Vec::new(alloc);
@@ -26,13 +23,18 @@ fn reply_text(alloc: Global) -> Option<Vec<u8>> {
     Some(text)
 }
 
-fn reply(alloc: Global) -> Option<Reply> {
-    let request = request(alloc)?;
-    first_reply(alloc, &request)
-}
-
-fn first_reply(alloc: Global, request: &Request) -> Option<Reply> {
-    desk(alloc)?.step(alloc, request).ok()
+fn reply(alloc: Global) -> Option<Reply>
+    ensures { IfSome result HasScales }
+{
+    let bytes = List::from_slice(alloc, RECEIPT.as_bytes()).ok()?;
+    let Ok(request) = Request::read(alloc, &Line::Text { bytes }) else {
+        return None;
+    };
+    let mut desk = desk(alloc)?;
+    match desk.step(alloc, &request) {
+        Ok(reply) => Some(reply),
+        Err(_) => None,
+    }
 }
 
 #[test]

@@ -1,5 +1,7 @@
 pub mod Documents
+pub mod OrderLemmas
 pub mod Walks
+pub mod JsonLemmas
 pub mod ReplyLemmas
 pub mod RequestLemmas
 mod PlainLemmas

@@ -1,5 +1,6 @@
 -- The JSON of a request that a line can be is plain, and nests a few levels deep.
-use Rattle.std.proofs.Common.{ℕ, ◌≤◌, Option, Some, None, IfSome, List, [], ◌∷◌, map, IsUtf8, codes, refl, arith}
+use Rattle.std.proofs.Common.{ℕ, ◌≤◌, Option, Some, None, IfSome, List, [], ◌∷◌, map, IsUtf8, codes}
+use Rattle.std.proofs.Common.{refl, arith}
 use Rattle.std.specs.List.{AllByRecursion}
 use Rattle.serde_json.specs.Data.{Data, string, depth, items_depth}
 use Rattle.serde_json.specs.View.{items_of}
@@ -7,21 +8,26 @@ use Rattle.json_laws.specs.Plain.{IsPlain, ItemsArePlain}
 use Rattle.reg_base.specs.declared.records.Mark.{Mark}
 use Rattle.reg_base.specs.declared.records.Mark.TheVariants.{Receipt, Expense, Turn}
 use Rattle.reg_base.specs.declared.records.Side.{Side}
-use Rattle.reg_base.proofs.Utf8Lemmas.{IsUtf8-tested, IsUtf8-code, IsUtf8-name}
+use Rattle.reg_base.proofs.ForAbove.{IsUtf8-tested, IsUtf8-code, IsUtf8-name}
 use Rattle.desk_words.specs.declared.request.SetText.{SetText}
 use Rattle.desk_words.specs.declared.request.RecordText.{RecordText}
 use Rattle.desk_words.specs.declared.request.RecordText.TheVariants.{Register, Ledger}
-use Rattle.desk_words.specs.ReplyTexts.{texts_data}
-use Rattle.desk_words.specs.RequestTexts.{mark_name, side_data, register_data, ledger_data, record_data, set_data, sets_data}
+use Rattle.desk_words.specs.JsonValues.{texts_data}
+use Rattle.desk_words.specs.RequestTexts.{mark_name, side_data, register_data, ledger_data}
+use Rattle.desk_words.specs.RequestTexts.{record_data, set_data, sets_data}
 use Rattle.desk_words.specs.WellFormed.{IsCode, IsSide, IsRecordText, IsSetText}
 
 -- ---- plain values
 
-ItemsArePlain-each : {X : Type 0} (data_of : X → Data) (P : X → Type 0) → ((x : X) → P x → IsPlain (data_of x)) → (xs : List X) → AllByRecursion P xs → ItemsArePlain (items_of (map data_of xs))
+ItemsArePlain-each : {X : Type 0} (data_of : X → Data) (P : X → Type 0)
+    → ((x : X) → P x → IsPlain (data_of x)) → (xs : List X) → AllByRecursion P xs
+    → ItemsArePlain (items_of (map data_of xs))
 ItemsArePlain-each data_of P plain [] h = tt
-ItemsArePlain-each data_of P plain (x ∷ xs) h = (plain x h.0, ItemsArePlain-each data_of P plain xs h.1)
+ItemsArePlain-each data_of P plain (x ∷ xs) h =
+    (plain x h.0, ItemsArePlain-each data_of P plain xs h.1)
 
-IsPlain-texts_data : (P : List ℕ → Type 0) → ((text : List ℕ) → P text → IsUtf8 text) → (texts : List (List ℕ)) → AllByRecursion P texts → IsPlain (texts_data texts)
+IsPlain-texts_data : (P : List ℕ → Type 0) → ((text : List ℕ) → P text → IsUtf8 text)
+    → (texts : List (List ℕ)) → AllByRecursion P texts → IsPlain (texts_data texts)
 unfolding texts_data
 IsPlain-texts_data P utf8 texts h = ItemsArePlain-each string P utf8 texts h
 
@@ -35,19 +41,32 @@ IsUtf8-mark_name Turn = IsUtf8-tested (codes "turn") refl
 
 IsPlain-side_data : (side : Option Side) → IfSome side IsSide → IsPlain (side_data side)
 IsPlain-side_data None h = tt
-IsPlain-side_data (Some side) h = IsPlain-texts_data IsCode IsUtf8-code (side.account ∷ side.extras) h
+IsPlain-side_data (Some side) h =
+    IsPlain-texts_data IsCode IsUtf8-code (side.account ∷ side.extras) h
 
 IsPlain-record_data : (given : RecordText) → IsRecordText given → IsPlain (record_data given)
 unfolding register_data ledger_data
 IsPlain-record_data (Register r) h = (
   (IsUtf8-tested (codes "kind") refl, refl),
   IsUtf8-mark_name r.mark,
-  ((IsUtf8-tested (codes "sums") refl, refl), IsPlain-texts_data IsUtf8 same r.sums h.0, ((IsUtf8-tested (codes "values") refl, refl), IsPlain-texts_data IsUtf8 same r.values h.1, tt)),
+  (
+    (IsUtf8-tested (codes "sums") refl, refl),
+    IsPlain-texts_data IsUtf8 same r.sums h.0,
+    (
+      (IsUtf8-tested (codes "values") refl, refl),
+      IsPlain-texts_data IsUtf8 same r.values h.1,
+      tt,
+    ),
+  ),
 )
 IsPlain-record_data (Ledger r) h = (
   (IsUtf8-tested (codes "amount") refl, refl),
   h.0,
-  ((IsUtf8-tested (codes "credit") refl, refl), IsPlain-side_data r.credit h.1, ((IsUtf8-tested (codes "debit") refl, refl), IsPlain-side_data r.debit h.2, tt)),
+  (
+    (IsUtf8-tested (codes "credit") refl, refl),
+    IsPlain-side_data r.credit h.1,
+    ((IsUtf8-tested (codes "debit") refl, refl), IsPlain-side_data r.debit h.2, tt),
+  ),
 )
 
 IsPlain-set_data : (set : SetText) → IsSetText set → IsPlain (set_data set)
@@ -58,13 +77,16 @@ IsPlain-set_data set h = (
   ((IsUtf8-tested (codes "space") refl, refl), IsUtf8-name set.space h.0, tt),
 )
 
-pub IsPlain-sets_data : (sets : List SetText) → AllByRecursion IsSetText sets → IsPlain (sets_data sets)
+pub IsPlain-sets_data : (sets : List SetText) → AllByRecursion IsSetText sets
+    → IsPlain (sets_data sets)
 unfolding sets_data
 IsPlain-sets_data sets h = ItemsArePlain-each set_data IsSetText IsPlain-set_data sets h
 
 -- ---- how deep they nest
 
-items_depth-each : {X : Type 0} (data_of : X → Data) (most : ℕ) → ((x : X) → depth (data_of x) ≤ most) → (xs : List X) → items_depth (items_of (map data_of xs)) ≤ most
+items_depth-each : {X : Type 0} (data_of : X → Data) (most : ℕ)
+    → ((x : X) → depth (data_of x) ≤ most) → (xs : List X)
+    → items_depth (items_of (map data_of xs)) ≤ most
 items_depth-each data_of most h [] = omega arith
 items_depth-each data_of most h (x ∷ xs) = omega (arith, h x, items_depth-each data_of most h xs)
 

@@ -1,20 +1,28 @@
 -- Sums have their texts, and a reply has no float, so that its text is known.
-use Rattle.std.proofs.Common.{◌≡◌, ℕ, Option, ℤ, false, List, [], ◌∷◌, ◌++◌, map, ◌⊎◌, ⊎_elim, refl, sym, ap, ◌∙◌, append-nil}
+use Rattle.std.proofs.Common.{◌≡◌, ℕ, Option, ℤ, false, List, [], ◌∷◌, ◌++◌, map, ◌⊎◌, ⊎_elim, refl}
+use Rattle.std.proofs.Common.{sym, ap, ◌∙◌, append-nil}
 use Rattle.serde_json.specs.Data.{Data, string}
 use Rattle.serde_json.specs.View.{items_of}
 use Rattle.serde_json.specs.Written.{has_float, items_have_float}
 use Rattle.reg_base.specs.declared.records.SumRow.{SumRow}
 use Rattle.desk_words.specs.declared.fault.WordFault.{WordFault}
-use Rattle.desk_words.specs.declared.fault.WordFault.TheVariants.{TooLong, NotJson, NotObject, UnknownOp, Missing, UnknownMember, BadMember, Memory}
+use Rattle.desk_words.specs.declared.fault.WordFault.TheVariants.{TooLong, NotJson, NotObject}
+use Rattle.desk_words.specs.declared.fault.WordFault.TheVariants.{UnknownOp, Missing, UnknownMember}
+use Rattle.desk_words.specs.declared.fault.WordFault.TheVariants.{BadMember, Memory}
 use Rattle.desk_words.specs.declared.reply.Reply.{Reply}
 use Rattle.desk_words.specs.declared.reply.Reply.TheVariants.{Done, Refused}
 use Rattle.desk_words.specs.declared.reply.Answer.{Answer}
 use Rattle.desk_words.specs.declared.reply.Answer.TheVariants.{Document, Balance}
 use Rattle.desk_words.specs.declared.reply.Refusal.{Refusal}
-use Rattle.desk_words.specs.declared.reply.Refusal.TheVariants.{BadLine, UnknownClerk, BadField, Limit, Rule}
+use Rattle.desk_words.specs.declared.reply.Refusal.TheVariants.{BadLine, UnknownClerk, BadField}
+use Rattle.desk_words.specs.declared.reply.Refusal.TheVariants.{Limit, Rule}
 use Rattle.reg_base.specs.declared.fault.PostFault.{PostFault}
-use Rattle.reg_base.specs.declared.fault.PostFault.TheVariants.{Broken, Shortage, Overflow, Entry, TooManyRecords, Negative}
-use Rattle.desk_words.specs.ReplyTexts.{sum_texts, texts_data, row_data, rows_data, document_data, answer_data, word_fault_members, post_fault_members, refusal_detail, refusal_data, reply_data}
+use Rattle.reg_base.specs.declared.fault.PostFault.TheVariants.{Broken, Shortage, Overflow, Entry}
+use Rattle.reg_base.specs.declared.fault.PostFault.TheVariants.{TooManyRecords, Negative}
+use Rattle.desk_words.proofs.JsonLemmas.{has_float-texts_data}
+use Rattle.desk_words.specs.ReplyTexts.{sum_texts, row_data, rows_data, document_data, answer_data}
+use Rattle.desk_words.specs.ReplyTexts.{word_fault_members, post_fault_members}
+use Rattle.desk_words.specs.ReplyTexts.{refusal_detail, refusal_data, reply_data}
 
 -- without sums there are no texts
 sum_texts-nil : (scales : List ℕ) → sum_texts scales [] ≡ []
@@ -22,21 +30,14 @@ sum_texts-nil [] = refl
 sum_texts-nil (scale ∷ scales) = refl
 
 -- where scales or sums are spent, no text is left to make
-pub sum_texts-spent : (front : List Data) (scales : List ℕ) (sums : List ℤ) (all : List Data) → (scales ≡ []) ⊎ (sums ≡ [])
+pub sum_texts-spent : (front : List Data) (scales : List ℕ) (sums : List ℤ) (all : List Data)
+    → (scales ≡ []) ⊎ (sums ≡ [])
     → front ++ map string (sum_texts scales sums) ≡ all → front ≡ all
 sum_texts-spent front scales sums all ended so_far =
-    let none : sum_texts scales sums ≡ [] = ⊎_elim (λ e. ap (λ x. sum_texts x sums) e) (λ e. ap (sum_texts scales) e ∙ sum_texts-nil scales) ended in
+    let none : sum_texts scales sums ≡ [] =
+    ⊎_elim (λ e. ap (λ x. sum_texts x sums) e) (λ e. ap (sum_texts scales) e
+    ∙ sum_texts-nil scales) ended in
     sym (append-nil front) ∙ rw none at so_far
-
--- texts are no floats
-items_have_float-texts : (texts : List (List ℕ)) → items_have_float (items_of (map string texts)) ≡ false
-items_have_float-texts [] = refl
-items_have_float-texts (t ∷ ts) = items_have_float-texts ts
-
--- a list of texts has none
-pub has_float-texts_data : (texts : List (List ℕ)) → has_float (texts_data texts) ≡ false
-unfolding texts_data
-has_float-texts_data texts = items_have_float-texts texts
 
 -- a row has none
 has_float-row_data : (scales : List ℕ) (row : SumRow) → has_float (row_data scales row) ≡ false
@@ -44,9 +45,11 @@ unfolding row_data
 has_float-row_data scales row = rw (has_float-texts_data, has_float-texts_data)
 
 -- rows have none
-items_have_float-rows : (scales : List ℕ) (rows : List SumRow) → items_have_float (items_of (map (row_data scales) rows)) ≡ false
+items_have_float-rows : (scales : List ℕ) (rows : List SumRow)
+    → items_have_float (items_of (map (row_data scales) rows)) ≡ false
 items_have_float-rows scales [] = refl
-items_have_float-rows scales (row ∷ rows) = rw (has_float-row_data scales row) (items_have_float-rows scales rows)
+items_have_float-rows scales (row ∷ rows) =
+    rw (has_float-row_data scales row) (items_have_float-rows scales rows)
 
 -- an answer has none
 has_float-answer_data : (answer : Answer) → has_float (answer_data answer) ≡ false
@@ -83,7 +86,7 @@ unfolding refusal_data refusal_detail
 has_float-refusal_data (BadLine fault) = has_float-bad_line fault
 has_float-refusal_data UnknownClerk = refl
 has_float-refusal_data (BadField field) = refl
-has_float-refusal_data (Limit which count) = refl
+has_float-refusal_data (Limit which limit) = refl
 has_float-refusal_data (Rule fault scale) = has_float-rule scale fault
 
 -- a reply has none

@@ -2,6 +2,7 @@ pub mod Members
 pub mod Shapes
 pub mod Sets
 pub mod Reading
+pub mod JsonValues
 pub mod ReplyWords
 pub mod ReplyTexts
 pub mod RequestTexts

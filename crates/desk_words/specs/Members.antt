@@ -1,10 +1,12 @@
 -- Which members an operation has, and what they are called.
-use Rattle.std.specs.Prelude.{ℕ, Bool, false, ◌||◌, List, [], ◌∷◌, Option, Some, None, is_some, if◌then◌else◌, codes}
+use Rattle.std.specs.Prelude.{ℕ, Bool, false, ◌||◌, List, [], ◌∷◌, Option, Some, None, is_some}
+use Rattle.std.specs.Prelude.{if◌then◌else◌, codes}
 use Rattle.std.specs.Str.{bytes_eq}
 use Rattle.serde_json.specs.Data.{Members, no_members, member}
 use Rattle.serde_json.specs.Find.{get_member}
 use Rattle.desk_words.specs.declared.fault.Member.{Member}
-use Rattle.desk_words.specs.declared.fault.Member.TheVariants.{Op, Clerk, No, Date, Sets, Register, Cut}
+use Rattle.desk_words.specs.declared.fault.Member.TheVariants.{Op, Clerk, No, Date, Sets, Register}
+use Rattle.desk_words.specs.declared.fault.Member.TheVariants.{Cut}
 use Rattle.desk_words.specs.declared.members.Operation.{Operation}
 use Rattle.desk_words.specs.declared.members.Operation.TheVariants.{Manual, Balance}
 
@@ -26,14 +28,14 @@ operation_named name =
     else None)
 
 -- the members that an operation asks for, in order
-abbrev pub required : Operation → List Member
-required Manual = Op ∷ Clerk ∷ No ∷ Date ∷ Sets ∷ []
-required Balance = Op ∷ Clerk ∷ Register ∷ []
+abbrev pub required_members : Operation → List Member
+required_members Manual = Op ∷ Clerk ∷ No ∷ Date ∷ Sets ∷ []
+required_members Balance = Op ∷ Clerk ∷ Register ∷ []
 
 -- the members that an operation may have besides
-abbrev pub optional : Operation → List Member
-optional Manual = []
-optional Balance = Cut ∷ []
+abbrev pub optional_members : Operation → List Member
+optional_members Manual = []
+optional_members Balance = Cut ∷ []
 
 -- the first of the members that an object lacks
 abbrev pub first_missing : List Member → Members → Option Member
@@ -46,9 +48,14 @@ abbrev pub is_name_of : List Member → List ℕ → Bool
 is_name_of [] name = false
 is_name_of (m ∷ ms) name = bytes_eq (member_name m) name || is_name_of ms name
 
+-- the names of an object's members
+abbrev pub member_names : Members → List (List ℕ)
+member_names no_members = []
+member_names (member name value more) = name ∷ member_names more
+
 -- The least name in an object that is of none of the members: an object's names stand in order.
-abbrev pub first_unknown : Operation → Members → Option (List ℕ)
-first_unknown op no_members = None
-first_unknown op (member name value more) =
-    if is_name_of (required op) name || is_name_of (optional op) name
-    then first_unknown op more else Some name
+abbrev pub first_unknown_member : Operation → Members → Option (List ℕ)
+first_unknown_member op no_members = None
+first_unknown_member op (member name value more) =
+    if is_name_of (required_members op) name || is_name_of (optional_members op) name
+    then first_unknown_member op more else Some name

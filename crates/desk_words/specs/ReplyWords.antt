@@ -3,17 +3,22 @@ use Rattle.std.specs.Prelude.{ℕ, List, codes}
 use Rattle.reg_base.specs.declared.records.DocState.{DocState}
 use Rattle.reg_base.specs.declared.records.DocState.TheVariants.{Written, Posted, Marked}
 use Rattle.desk_words.specs.declared.fault.WordFault.{WordFault}
-use Rattle.desk_words.specs.declared.fault.WordFault.TheVariants.{TooLong, NotJson, NotObject, UnknownOp, Missing, UnknownMember, BadMember, Memory}
+use Rattle.desk_words.specs.declared.fault.WordFault.TheVariants.{TooLong, NotJson, NotObject}
+use Rattle.desk_words.specs.declared.fault.WordFault.TheVariants.{UnknownOp, Missing, UnknownMember}
+use Rattle.desk_words.specs.declared.fault.WordFault.TheVariants.{BadMember, Memory}
 use Rattle.desk_words.specs.declared.reply.Refusal.{Refusal}
-use Rattle.desk_words.specs.declared.reply.Refusal.TheVariants.{BadLine, UnknownClerk, BadField, Limit as LimitPassed, Rule}
+use Rattle.desk_words.specs.declared.reply.Refusal.TheVariants.{BadLine, UnknownClerk, BadField}
+use Rattle.desk_words.specs.declared.reply.Refusal.TheVariants.{Limit as LimitPassed, Rule}
 use Rattle.desk_words.specs.declared.reply.Field.{Field}
 use Rattle.desk_words.specs.declared.reply.Field.TheVariants.{Space, Register, Values, Sums, Kind}
 use Rattle.desk_words.specs.declared.reply.Limit.{Limit}
 use Rattle.desk_words.specs.declared.reply.Limit.TheVariants.{Numbers}
 use Rattle.reg_base.specs.declared.fault.PostFault.{PostFault}
-use Rattle.reg_base.specs.declared.fault.PostFault.TheVariants.{Broken, Shortage, Overflow, Entry, TooManyRecords, Negative}
+use Rattle.reg_base.specs.declared.fault.PostFault.TheVariants.{Broken, Shortage, Overflow, Entry}
+use Rattle.reg_base.specs.declared.fault.PostFault.TheVariants.{TooManyRecords, Negative}
 use Rattle.reg_base.specs.declared.fault.EntryFault.{EntryFault}
-use Rattle.reg_base.specs.declared.fault.EntryFault.TheVariants.{UnknownAccount, GroupAccount, ExtraCount, Sides}
+use Rattle.reg_base.specs.declared.fault.EntryFault.TheVariants.{UnknownAccount, GroupAccount}
+use Rattle.reg_base.specs.declared.fault.EntryFault.TheVariants.{ExtraCount, Sides}
 
 -- the word of a document's state
 abbrev pub state_name : DocState → List ℕ
@@ -65,7 +70,7 @@ abbrev pub refusal_number : Refusal → ℕ
 refusal_number (BadLine fault) = 1
 refusal_number UnknownClerk = 2
 refusal_number (BadField field) = 11
-refusal_number (LimitPassed which count) = 14
+refusal_number (LimitPassed which limit) = 14
 refusal_number (Rule fault scale) = 15
 
 -- the word of a refusal
@@ -73,5 +78,5 @@ abbrev pub refusal_name : Refusal → List ℕ
 refusal_name (BadLine fault) = codes "BadLine"
 refusal_name UnknownClerk = codes "UnknownClerk"
 refusal_name (BadField field) = codes "BadField"
-refusal_name (LimitPassed which count) = codes "Limit"
+refusal_name (LimitPassed which limit) = codes "Limit"
 refusal_name (Rule fault scale) = codes "Rule"

@@ -1,6 +1,7 @@
 -- The canonical text of a request.
 use Rattle.std.specs.Prelude.{ℕ, List, [], ◌∷◌, Option, Some, None, option_map, map, codes}
-use Rattle.serde_json.specs.Data.{Data, null, string, array, object, Members, no_members, member, put}
+use Rattle.serde_json.specs.Data.{Data, null, string, array, object, Members, no_members, member}
+use Rattle.serde_json.specs.Data.{put}
 use Rattle.serde_json.specs.View.{items_of}
 use Rattle.serde_json.specs.Written.{compact_text}
 use Rattle.reg_base.specs.Dates.{date_text}
@@ -9,7 +10,8 @@ use Rattle.reg_base.specs.declared.records.Mark.{Mark}
 use Rattle.reg_base.specs.declared.records.Mark.TheVariants.{Receipt, Expense, Turn}
 use Rattle.reg_base.specs.declared.records.Side.{Side}
 use Rattle.desk_words.specs.declared.request.Request.{Request}
-use Rattle.desk_words.specs.declared.request.Request.TheVariants.{Manual as Manual_request, Balance as Balance_request}
+use Rattle.desk_words.specs.declared.request.Request.TheVariants.{Manual as Manual_request}
+use Rattle.desk_words.specs.declared.request.Request.TheVariants.{Balance as Balance_request}
 use Rattle.desk_words.specs.declared.request.Manual.{Manual}
 use Rattle.desk_words.specs.declared.request.Balance.{Balance}
 use Rattle.desk_words.specs.declared.request.SetText.{SetText}
@@ -18,7 +20,7 @@ use Rattle.desk_words.specs.declared.request.RecordText.{RecordText}
 use Rattle.desk_words.specs.declared.request.RecordText.TheVariants.{Register, Ledger}
 use Rattle.desk_words.specs.declared.request.RegisterText.{RegisterText}
 use Rattle.desk_words.specs.declared.request.LedgerText.{LedgerText}
-use Rattle.desk_words.specs.ReplyTexts.{whole, texts_data}
+use Rattle.desk_words.specs.JsonValues.{whole, texts_data, put_if}
 
 -- the word of a mark
 abbrev pub mark_name : Mark → List ℕ
@@ -69,11 +71,6 @@ put_filters ms (filter ∷ filters) = put_filters (put filter.name (texts_data f
 -- the values that dimensions may have, by their names
 abbrev pub filters_data : List FilterText → Data
 filters_data filters = object (put_filters no_members filters)
-
--- the members with one more in its place by name, where it is there
-abbrev pub put_if : List ℕ → Option Data → Members → Members
-put_if name None ms = ms
-put_if name (Some value) ms = put name value ms
 
 -- the members that `manual` always has
 unfoldable pub manual_frame : Manual → Members

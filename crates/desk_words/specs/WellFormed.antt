@@ -6,7 +6,8 @@ use Rattle.reg_base.specs.Codes.{is_code, is_name}
 use Rattle.reg_base.specs.Cuts.{IsCut}
 use Rattle.reg_base.specs.declared.records.Side.{Side}
 use Rattle.desk_words.specs.declared.request.Request.{Request}
-use Rattle.desk_words.specs.declared.request.Request.TheVariants.{Manual as Manual_request, Balance as Balance_request}
+use Rattle.desk_words.specs.declared.request.Request.TheVariants.{Manual as Manual_request}
+use Rattle.desk_words.specs.declared.request.Request.TheVariants.{Balance as Balance_request}
 use Rattle.desk_words.specs.declared.request.Manual.{Manual}
 use Rattle.desk_words.specs.declared.request.Balance.{Balance}
 use Rattle.desk_words.specs.declared.request.SetText.{SetText}
@@ -41,7 +42,7 @@ abbrev pub IsSetText : SetText → Type 0
 IsSetText set = IsName set.space × AllByRecursion IsRecordText set.records
 
 -- the members of `manual` that are built are well formed, and the others absent
-pub record IsManual (m : Manual) : Type 0 where
+pub record IsManualRequest (m : Manual) : Type 0 where
   pub clerk : IsName m.clerk
   pub first : 1 ≤ m.no
   pub last : m.no ≤ 4_294_967_295
@@ -53,7 +54,7 @@ pub record IsManual (m : Manual) : Type 0 where
   pub no_tx : m.tx ≡ None
 
 -- the members of `balance` that are built are well formed, and the others absent
-pub record IsBalance (b : Balance) : Type 0 where
+pub record IsBalanceRequest (b : Balance) : Type 0 where
   pub clerk : IsName b.clerk
   pub register : IsName b.register
   pub cut : IfSome b.cut IsCut
@@ -63,5 +64,5 @@ pub record IsBalance (b : Balance) : Type 0 where
 
 -- a request that a line can be
 abbrev pub IsRequest : Request → Type 0
-IsRequest (Manual_request m) = IsManual m
-IsRequest (Balance_request b) = IsBalance b
+IsRequest (Manual_request m) = IsManualRequest m
+IsRequest (Balance_request b) = IsBalanceRequest b

@@ -3,8 +3,8 @@
 //! Means: `request` in `specs/Reading.antt` says which request a line is, or its first fault;
 //! `reply_text` in `specs/ReplyTexts.antt` is the line that a reply is printed as.
 //!
-//! Stands on: `serde_json` for JSON, `reg_base` for names, dates, cuts, codes and the faults of
-//! posting, `reg_io` for lines.
+//! Stands on: `serde_json` for JSON, `reg_base` for lines, names, dates, cuts, codes and the
+//! faults of posting.
 //!
 //! Promises: a line is read exactly as `request` says, and a reply printed exactly as
 //! `reply_text` says; want of memory alone is free.
@@ -13,6 +13,7 @@
 #![tactic(auto)]
 
 mod fault;
+mod json_values;
 mod laws;
 mod members;
 mod parsed;
@@ -24,11 +25,10 @@ mod request;
 mod request_values;
 mod sets;
 mod shapes;
-mod to_json;
 
 pub use fault::{Member, WordFault};
-pub use laws::requests_read_back;
-pub use reply::{Answer, Field, Limit, Refusal, Reply, post_fault_number};
+pub use laws::{members_ascend, requests_read_back};
+pub use reply::{Answer, Field, Limit, Refusal, Reply};
 pub use request::{
     Balance, FilterText, LedgerText, Manual, RecordText, RegisterText, Request, SetText,
 };

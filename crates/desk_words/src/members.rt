@@ -1,12 +1,13 @@
 //! Operations, and the members that each has.
 ghost use Rattle.std.specs.Prelude.{◌≡◌, option_map};
 ghost use Rattle.serde_json.specs.View.{members_view};
-ghost use Rattle.desk_words.specs.Members.{operation_named, required, optional, first_missing, is_name_of, first_unknown};
+ghost use Rattle.desk_words.specs.Members.{operation_named, required_members, optional_members};
+ghost use Rattle.desk_words.specs.Members.{first_missing, is_name_of, first_unknown_member};
 
 use crate::fault::Member;
 use crate::parsed::{Object, member};
 
-/// What a line may ask for.
+// What a line may ask for.
 #[derive(Clone, Copy)]
 pub(crate) enum Operation {
     Manual,
@@ -24,9 +25,9 @@ impl Operation {
         }
     }
 
-    /// The members that the operation asks for, in order.
-    pub(crate) fn required(self) -> &'static [Member]
-        ensures { result.now ≡ required self }
+    // The members that the operation asks for, in order.
+    pub(crate) fn required_members(self) -> &'static [Member]
+        ensures { result.now ≡ required_members self }
     {
         match self {
             Operation::Manual => &[
@@ -40,9 +41,9 @@ impl Operation {
         }
     }
 
-    /// The members that the operation may have besides.
-    pub(crate) fn optional(self) -> &'static [Member]
-        ensures { result.now ≡ optional self }
+    // The members that the operation may have besides.
+    pub(crate) fn optional_members(self) -> &'static [Member]
+        ensures { result.now ≡ optional_members self }
     {
         match self {
             Operation::Manual => &[],
@@ -51,7 +52,7 @@ impl Operation {
     }
 }
 
-/// The first of the members that an object lacks.
+// The first of the members that an object lacks.
 pub(crate) fn first_missing(members: &[Member], object: &Object) -> Option<Member>
     ensures { result ≡ first_missing members.now (members_view object.now.entries) }
 {
@@ -63,7 +64,7 @@ pub(crate) fn first_missing(members: &[Member], object: &Object) -> Option<Membe
     None
 }
 
-/// Whether one of the members has the name.
+// Whether one of the members has the name.
 fn is_name_of(members: &[Member], name: &str) -> bool
     ensures { result ≡ is_name_of members.now name.now }
 {
@@ -75,14 +76,14 @@ fn is_name_of(members: &[Member], name: &str) -> bool
     false
 }
 
-/// The least name, by bytes, that is of no member of the operation.
-pub(crate) fn first_unknown(operation: Operation, object: &Object) -> Option<&str>
+// The least name, by bytes, that is of no member of the operation.
+pub(crate) fn first_unknown_member(operation: Operation, object: &Object) -> Option<&str>
     ensures { option_map (λ n. n.now) result
-        ≡ first_unknown operation (members_view object.now.entries) }
+        ≡ first_unknown_member operation (members_view object.now.entries) }
 {
     'entries: for (name, _value) in object.iter() {
-        let is_known = is_name_of(operation.required(), name.as_str())
-            || is_name_of(operation.optional(), name.as_str());
+        let is_known = is_name_of(operation.required_members(), name.as_str())
+            || is_name_of(operation.optional_members(), name.as_str());
         if !is_known {
             return Some(name.as_str());
         }

@@ -2,7 +2,7 @@
 ghost use Rattle.std.specs.Prelude.{◌≡◌, ◌++◌, OnOk, OnErr};
 ghost use Rattle.desk_words.specs.RequestTexts.{request_text};
 
-use crate::reply_values::print_value;
+use crate::json_values::print_value;
 use crate::request::Request;
 use crate::request_values::request_value;
 use reg_base::Memory;

@@ -5,17 +5,18 @@ ghost use Rattle.reg_base.specs.Results.{Gives, Says};
 ghost use Rattle.desk_words.specs.declared.fault.WordFault.TheVariants.{Memory, UnknownMember};
 ghost use Rattle.desk_words.specs.Members.{member_name};
 ghost use Rattle.desk_words.specs.Shapes.{shape_at};
-ghost use Rattle.desk_words.specs.Reading.{operation_of, check_present, check_known, cut_at, manual_of, balance_of, members_of, request_in, request_of_text, request};
+ghost use Rattle.desk_words.specs.Reading.{operation_of, check_present, check_known, json_cut_at};
+ghost use Rattle.desk_words.specs.Reading.{manual_request, balance_request, members_of, request_in};
+ghost use Rattle.desk_words.specs.Reading.{request_of_text, request};
 ghost use Rattle.desk_words.specs.WellFormed.{IsRequest};
 
 use crate::fault::{Member, WordFault};
-use crate::members::{Operation, first_missing, first_unknown};
-use crate::parsed::{Object, document, member};
+use crate::members::{Operation, first_missing, first_unknown_member};
+use crate::parsed::{Object, json_document, member};
 use crate::request::{Balance, Manual, Request};
-use crate::shapes::{FromJson, cut_of, read_at};
+use crate::shapes::{FromJson, json_cut, read_at};
 use json_laws::value_has_utf8;
-use reg_base::{Cut, Text};
-use reg_io::Line;
+use reg_base::{Cut, Line, Text};
 use std::alloc::Global;
 
 impl Request {
@@ -36,7 +37,7 @@ impl Request {
         ensures value { Gives Memory result (request_of_text bytes.now) }
         ensures well_formed { IfOk result IsRequest }
     {
-        let document = document(alloc, bytes)?;
+        let document = json_document(alloc, bytes)?;
         value_has_utf8(&document);
         let Some(object) = document.as_object() else {
             return Err(WordFault::NotObject);
@@ -72,7 +73,7 @@ fn operation_of(object: &Object) -> Result<Operation, WordFault>
 fn check_present(operation: Operation, object: &Object) -> Result<(), WordFault>
     ensures { Gives Memory result (check_present operation (members_view object.now.entries)) }
 {
-    match first_missing(operation.required(), object) {
+    match first_missing(operation.required_members(), object) {
         Some(member) => Err(WordFault::Missing { member }),
         None => Ok(()),
     }
@@ -82,7 +83,7 @@ fn check_present(operation: Operation, object: &Object) -> Result<(), WordFault>
 fn check_known(alloc: Global, operation: Operation, object: &Object) -> Result<(), WordFault>
     ensures { Gives Memory result (check_known operation (members_view object.now.entries)) }
 {
-    match first_unknown(operation, object) {
+    match first_unknown_member(operation, object) {
         Some(name) => Err(unknown_member(alloc, name)),
         None => Ok(()),
     }
@@ -102,14 +103,14 @@ fn members_of(alloc: Global, operation: Operation, object: &Object) -> Result<Re
     ensures { Gives Memory result (members_of operation (members_view object.now.entries)) }
 {
     match operation {
-        Operation::Manual => Ok(Request::Manual(manual_of(alloc, object)?)),
-        Operation::Balance => Ok(Request::Balance(balance_of(alloc, object)?)),
+        Operation::Manual => Ok(Request::Manual(manual_request(alloc, object)?)),
+        Operation::Balance => Ok(Request::Balance(balance_request(alloc, object)?)),
     }
 }
 
-#[tactic(auto, unfolding(crate::specs::Reading::manual_of))]
-fn manual_of(alloc: Global, object: &Object) -> Result<Manual, WordFault>
-    ensures { Gives Memory result (manual_of (members_view object.now.entries)) }
+#[tactic(auto, unfolding(crate::specs::Reading::manual_request))]
+fn manual_request(alloc: Global, object: &Object) -> Result<Manual, WordFault>
+    ensures { Gives Memory result (manual_request (members_view object.now.entries)) }
 {
     let clerk = read_member(alloc, Member::Clerk, object)?;
     let no = read_member(alloc, Member::No, object)?;
@@ -127,13 +128,13 @@ fn manual_of(alloc: Global, object: &Object) -> Result<Manual, WordFault>
     })
 }
 
-#[tactic(auto, unfolding(crate::specs::Reading::balance_of))]
-fn balance_of(alloc: Global, object: &Object) -> Result<Balance, WordFault>
-    ensures { Gives Memory result (balance_of (members_view object.now.entries)) }
+#[tactic(auto, unfolding(crate::specs::Reading::balance_request))]
+fn balance_request(alloc: Global, object: &Object) -> Result<Balance, WordFault>
+    ensures { Gives Memory result (balance_request (members_view object.now.entries)) }
 {
     let clerk = read_member(alloc, Member::Clerk, object)?;
     let register = read_member(alloc, Member::Register, object)?;
-    let cut = cut_at(object)?;
+    let cut = json_cut_at(object)?;
     Ok(Balance {
         clerk,
         register,
@@ -144,7 +145,7 @@ fn balance_of(alloc: Global, object: &Object) -> Result<Balance, WordFault>
     })
 }
 
-/// What the object has at one of the members that an operation asks for.
+// What the object has at one of the members that an operation asks for.
 fn read_member<X: FromJson>(alloc: Global, member: Member, object: &Object) -> Result<X, WordFault>
     ensures { Gives Memory result
         (shape_at (X.reads member) member (member_name member) (members_view object.now.entries)) }
@@ -152,13 +153,13 @@ fn read_member<X: FromJson>(alloc: Global, member: Member, object: &Object) -> R
     read_at(alloc, member, member.name(), object)
 }
 
-/// The cut, where the member stands at all.
-#[tactic(auto, unfolding(crate::specs::Reading::cut_at))]
-fn cut_at(object: &Object) -> Result<Option<Cut>, WordFault>
-    ensures { Gives Memory result (cut_at (members_view object.now.entries)) }
+// The cut, where the member stands at all.
+#[tactic(auto, unfolding(crate::specs::Reading::json_cut_at))]
+fn json_cut_at(object: &Object) -> Result<Option<Cut>, WordFault>
+    ensures { Gives Memory result (json_cut_at (members_view object.now.entries)) }
 {
     match member(object, Member::Cut.name()) {
-        Some(value) => Ok(Some(cut_of(Member::Cut, value)?)),
+        Some(value) => Ok(Some(json_cut(Member::Cut, value)?)),
         None => Ok(None),
     }
 }

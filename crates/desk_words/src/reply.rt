@@ -1,10 +1,12 @@
 //! What the desk answers to a request.
 ghost use Rattle.std.specs.Prelude.{◌≡◌, OnOk, OnErr, ◌++◌};
-ghost use Rattle.desk_words.specs.ReplyTexts.{reply_text};
-ghost use Rattle.desk_words.specs.ReplyWords.{field_name, limit_name, post_fault_number, entry_fault_number, refusal_number, refusal_name};
+ghost use Rattle.desk_words.specs.ReplyTexts.{HasScales, reply_text};
+ghost use Rattle.desk_words.specs.ReplyWords.{field_name, limit_name, post_fault_number};
+ghost use Rattle.desk_words.specs.ReplyWords.{entry_fault_number, refusal_number, refusal_name};
 
 use crate::fault::WordFault;
-use crate::reply_values::{print_value, reply_value};
+use crate::json_values::print_value;
+use crate::reply_values::reply_value;
 use reg_base::{DocState, EntryFault, List, Memory, PostFault, Scale, SumRow};
 use std::alloc::Global;
 
@@ -28,7 +30,7 @@ pub enum Answer {
     },
     Balance {
         rows: List<SumRow>,
-        /// How many decimals each resource has: the scales of a row's sums, place by place.
+        /// How many decimals each resource has: a scale for each of a row's sums, in order.
         scales: List<Scale>,
     },
 }
@@ -44,15 +46,16 @@ pub enum Refusal {
     BadField {
         field: Field,
     },
-    /// A count would pass its limit.
+    /// One more would pass a limit.
     Limit {
         which: Limit,
+        /// The limit itself: how many there may be.
         number: u64,
     },
     /// The document's records can't be made.
     Rule {
         fault: PostFault,
-        /// The decimals of the quantity that is missing, where one is.
+        /// The decimals of the quantity that is missing; a shortage has them.
         scale: Option<Scale>,
     },
 }
@@ -78,6 +81,7 @@ impl Reply {
     /// Appends the line that the reply is printed as, without a line feed.
     #[tactic(auto, unfolding(crate::specs::ReplyTexts::reply_text))]
     pub fn print(&self, alloc: Global, out: &mut Vec<u8>) -> Result<(), Memory>
+        requires scales { HasScales self.now }
         ensures ok { OnOk result (out.new.items ≡ out.old.items ++ reply_text self.now) }
         ensures err { OnErr result (out.new.items ≡ out.old.items) }
     {
@@ -140,9 +144,9 @@ impl Limit {
     }
 }
 
-/// The number of a fault of posting.
-pub fn post_fault_number(fault: PostFault) -> u64
-    ensures { result ≡ post_fault_number fault }
+// The number of a fault of posting.
+pub(crate) fn post_fault_number(fault: &PostFault) -> u64
+    ensures { result ≡ post_fault_number fault.now }
 {
     match fault {
         PostFault::Broken { .. } => 1,
@@ -154,8 +158,8 @@ pub fn post_fault_number(fault: PostFault) -> u64
     }
 }
 
-/// The number of a fault of an entry.
-pub fn entry_fault_number(fault: EntryFault) -> u64
+// The number of a fault of an entry.
+pub(crate) fn entry_fault_number(fault: EntryFault) -> u64
     ensures { result ≡ entry_fault_number fault }
 {
     match fault {

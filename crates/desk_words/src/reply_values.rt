@@ -1,42 +1,36 @@
 //! Replies as JSON.
-ghost use Rattle.std.specs.Prelude.{◌≡◌, ◌++◌, false, map, codes, string_bytes, IfOk, OnOk, OnErr};
+ghost use Rattle.std.specs.Prelude.{◌≡◌, codes, length, map, string_bytes, All, IsSome, IfOk};
 ghost use Rattle.serde_json.specs.Data.{string, object, no_members, member};
 ghost use Rattle.serde_json.specs.View.{view, members_view};
-ghost use Rattle.serde_json.specs.Written.{compact_text, has_float};
-ghost use Rattle.desk_words.specs.ReplyTexts.{whole, value_text as value_text_of, sum_texts as sum_texts_of, texts_data, row_data, rows_data, document_data, answer_data, word_fault_detail, word_fault_members, refusal_detail, refusal_data, reply_data, fault_at, missing_text as missing_text_of, post_fault_members};
-ghost use Rattle.desk_words.specs.ReplyWords.{state_name as state_name_of, entry_fault_number as entry_fault_number_of};
-ghost use Rattle.serde_json.specs.Data.{put as member_put};
+ghost use Rattle.desk_words.specs.ReplyTexts.{HasMissingScale, RefusalHasScales, AnswerHasScales};
+ghost use Rattle.desk_words.specs.ReplyTexts.{HasScales, value_text as value_text_of};
+ghost use Rattle.desk_words.specs.ReplyTexts.{sum_texts as sum_texts_of, row_data, rows_data};
+ghost use Rattle.desk_words.specs.ReplyTexts.{document_data, answer_data, word_fault_detail};
+ghost use Rattle.desk_words.specs.ReplyTexts.{word_fault_members, refusal_detail, refusal_data};
+ghost use Rattle.desk_words.specs.ReplyTexts.{reply_data, place_members};
+ghost use Rattle.desk_words.specs.ReplyTexts.{missing_text as missing_text_of, post_fault_detail};
+ghost use Rattle.desk_words.specs.ReplyTexts.{post_fault_members};
+ghost use Rattle.desk_words.specs.JsonValues.{whole, texts_data};
+ghost use Rattle.desk_words.specs.ReplyWords.{state_name as state_name_of};
 
 use crate::fault::WordFault;
+use crate::json_values::{ToJson, array_value, put_text, put_value};
 use crate::parsed::Object;
-use crate::reply::{Answer, Refusal, Reply, entry_fault_number};
-use crate::to_json::{ToJson, array_value, put_text, put_value};
-use reg_base::{
-    Code, DocState, EntryFault, List, Memory, PostFault, Scale, SumRow, Value, sum_string,
-};
+use crate::reply::{Answer, Refusal, Reply, entry_fault_number, post_fault_number};
+use reg_base::{DocState, List, Memory, PostFault, Scale, SumRow, Value, sum_string};
 use serde_json::{Value as Json, put};
 use std::alloc::Global;
 
-/// A reply as JSON.
+// A reply as JSON.
 #[tactic(auto, unfolding(crate::specs::ReplyTexts::reply_data))]
 pub(crate) fn reply_value(alloc: Global, reply: &Reply) -> Result<Json, Memory>
+    requires { HasScales reply.now }
     ensures { IfOk result (λ v. view v ≡ reply_data reply.now) }
 {
     match reply {
         Reply::Done(answer) => one_member(alloc, "ok", answer_value(alloc, answer)?),
         Reply::Refused(refusal) => one_member(alloc, "refused", refusal_value(alloc, refusal)?),
     }
-}
-
-/// Appends the compact text of a value.
-pub(crate) fn print_value(alloc: Global, value: &Json, out: &mut Vec<u8>) -> Result<(), Memory>
-    requires { has_float (view value.now) ≡ false }
-    ensures ok { OnOk result (out.new.items ≡ out.old.items ++ compact_text (view value.now)) }
-    ensures err { OnErr result (out.new.items ≡ out.old.items) }
-{
-    let text = value.to_vec(alloc)?;
-    out.extend_from_slice(&text)?;
-    Ok(())
 }
 
 fn one_member(alloc: Global, name: &str, value: Json) -> Result<Json, Memory>
@@ -49,6 +43,7 @@ fn one_member(alloc: Global, name: &str, value: Json) -> Result<Json, Memory>
 
 #[tactic(auto, unfolding(crate::specs::ReplyTexts::answer_data))]
 fn answer_value(alloc: Global, answer: &Answer) -> Result<Json, Memory>
+    requires { AnswerHasScales answer.now }
     ensures { IfOk result (λ v. view v ≡ answer_data answer.now) }
 {
     match answer {
@@ -83,6 +78,7 @@ fn state_name(state: DocState) -> &'static str
 
 #[tactic(auto, unfolding(crate::specs::ReplyTexts::rows_data))]
 fn rows_value(alloc: Global, rows: &[SumRow], scales: &[Scale]) -> Result<Json, Memory>
+    requires { All (λ row. length row.sums ≡ length scales.now) rows.now }
     ensures { IfOk result (λ v. view v ≡ rows_data scales.now rows.now) }
 {
     let mut values = Vec::new(alloc);
@@ -94,6 +90,7 @@ fn rows_value(alloc: Global, rows: &[SumRow], scales: &[Scale]) -> Result<Json, 
 
 #[tactic(auto, unfolding(crate::specs::ReplyTexts::row_data))]
 fn row_value(alloc: Global, row: &SumRow, scales: &[Scale]) -> Result<Json, Memory>
+    requires { length row.now.sums ≡ length scales.now }
     ensures { IfOk result (λ v. view v ≡ row_data scales.now row.now) }
 {
     let mut members = Object::new(alloc);
@@ -110,7 +107,7 @@ fn row_value(alloc: Global, row: &SumRow, scales: &[Scale]) -> Result<Json, Memo
 impl ToJson for List<Value> {
     ghost json = { λ group. texts_data (map value_text_of group) };
 
-    #[tactic(auto, unfolding(crate::specs::ReplyTexts::texts_data))]
+    #[tactic(auto, unfolding(crate::specs::JsonValues::texts_data))]
     fn to_json(&self, alloc: Global) -> Result<Json, Memory> {
         array_value(alloc, self.as_slice())
     }
@@ -133,8 +130,9 @@ fn value_text(alloc: Global, value: &Value) -> Result<String, Memory>
     }
 }
 
-#[tactic(auto, unfolding(crate::specs::ReplyTexts::texts_data))]
+#[tactic(auto, unfolding(crate::specs::JsonValues::texts_data))]
 fn sums_value(alloc: Global, sums: &[i128], scales: &[Scale]) -> Result<Json, Memory>
+    requires { length sums.now ≡ length scales.now }
     ensures { IfOk result (λ v. view v ≡ texts_data (sum_texts_of scales.now sums.now)) }
 {
     let mut texts = Vec::new(alloc);
@@ -146,6 +144,7 @@ fn sums_value(alloc: Global, sums: &[i128], scales: &[Scale]) -> Result<Json, Me
 
 #[tactic(auto, unfolding(crate::specs::ReplyTexts::refusal_data))]
 fn refusal_value(alloc: Global, refusal: &Refusal) -> Result<Json, Memory>
+    requires { RefusalHasScales refusal.now }
     ensures { IfOk result (λ v. view v ≡ refusal_data refusal.now) }
 {
     let mut members = refusal_detail(alloc, refusal)?;
@@ -154,9 +153,10 @@ fn refusal_value(alloc: Global, refusal: &Refusal) -> Result<Json, Memory>
     Ok(Json::Object(members))
 }
 
-/// What a refusal tells besides its number and its name.
+// What a refusal tells besides its number and its name.
 #[tactic(auto, unfolding(crate::specs::ReplyTexts::refusal_detail))]
 fn refusal_detail(alloc: Global, refusal: &Refusal) -> Result<Object, Memory>
+    requires { RefusalHasScales refusal.now }
     ensures { IfOk result (λ m. members_view m.entries ≡ refusal_detail refusal.now) }
 {
     match refusal {
@@ -174,80 +174,80 @@ fn post_fault_members(
     scale: Option<Scale>,
     fault: &PostFault,
 ) -> Result<Object, Memory>
+    requires { HasMissingScale scale fault.now }
     ensures { IfOk result (λ m. members_view m.entries ≡ post_fault_members scale fault.now) }
 {
+    let mut members = post_fault_detail(alloc, scale, fault)?;
+    put(
+        &mut members,
+        alloc,
+        "fault",
+        Json::from(post_fault_number(fault)),
+    )?;
+    Ok(members)
+}
+
+// What a fault of posting tells besides its number.
+fn post_fault_detail(
+    alloc: Global,
+    scale: Option<Scale>,
+    fault: &PostFault,
+) -> Result<Object, Memory>
+    requires { HasMissingScale scale fault.now }
+    ensures { IfOk result (λ m. members_view m.entries ≡ post_fault_detail scale fault.now) }
+{
     match *fault {
-        PostFault::Broken { rule, line, code } => broken_members(alloc, rule, line, &code),
+        PostFault::Broken { rule, line, code } => {
+            let mut members = place_members(alloc, rule, line)?;
+            put_value(alloc, &mut members, "text", &code)?;
+            Ok(members)
+        }
         PostFault::Shortage {
             rule,
             line,
             missing,
-        } => shortage_members(alloc, rule, line, scale, missing),
-        PostFault::Overflow { rule, line } => fault_at(alloc, 3, rule, line),
-        PostFault::Entry { rule, line, fault } => entry_members(alloc, rule, line, fault),
-        PostFault::TooManyRecords => whole_member(alloc, "fault", 5),
-        PostFault::Negative { rule, line } => fault_at(alloc, 6, rule, line),
+        } => {
+            let mut members = place_members(alloc, rule, line)?;
+            let missing = missing_text(alloc, scale, missing)?;
+            put(&mut members, alloc, "missing", Json::String(missing))?;
+            Ok(members)
+        }
+        PostFault::Entry { rule, line, fault } => {
+            let mut members = place_members(alloc, rule, line)?;
+            put(
+                &mut members,
+                alloc,
+                "entry",
+                Json::from(entry_fault_number(fault)),
+            )?;
+            Ok(members)
+        }
+        PostFault::TooManyRecords => Ok(Object::new(alloc)),
+        PostFault::Overflow { rule, line } | PostFault::Negative { rule, line } => {
+            place_members(alloc, rule, line)
+        }
     }
 }
 
-/// The fault of a rule at a line of the document.
-fn fault_at(alloc: Global, number: u64, rule: u32, line: u32) -> Result<Object, Memory>
-    ensures { IfOk result (λ m. members_view m.entries ≡ fault_at number rule line) }
+// The rule and the line of the document at which posting found a fault.
+fn place_members(alloc: Global, rule: u32, line: u32) -> Result<Object, Memory>
+    ensures { IfOk result (λ m. members_view m.entries ≡ place_members rule line) }
 {
-    let mut members = whole_member(alloc, "fault", number)?;
-    put(&mut members, alloc, "line", Json::from(line))?;
+    let mut members = whole_member(alloc, "line", u64::from(line))?;
     put(&mut members, alloc, "rule", Json::from(rule))?;
     Ok(members)
 }
 
-fn broken_members(alloc: Global, rule: u32, line: u32, code: &Code) -> Result<Object, Memory>
-    ensures { IfOk result (λ m. members_view m.entries
-        ≡ member_put (codes "text") (string code.now) (fault_at 1 rule line)) }
-{
-    let mut members = fault_at(alloc, 1, rule, line)?;
-    put_value(alloc, &mut members, "text", code)?;
-    Ok(members)
-}
-
-fn shortage_members(
-    alloc: Global,
-    rule: u32,
-    line: u32,
-    scale: Option<Scale>,
-    missing: i64,
-) -> Result<Object, Memory>
-    ensures { IfOk result (λ m. members_view m.entries ≡ member_put (codes "missing")
-        (string (missing_text_of scale missing)) (fault_at 2 rule line)) }
-{
-    let mut members = fault_at(alloc, 2, rule, line)?;
-    let missing = missing_text(alloc, scale, missing)?;
-    put(&mut members, alloc, "missing", Json::String(missing))?;
-    Ok(members)
-}
-
-/// A quantity that is missing, with its decimals.
+// A quantity that is missing, with its decimals.
 fn missing_text(alloc: Global, scale: Option<Scale>, missing: i64) -> Result<String, Memory>
+    requires { IsSome scale }
     ensures { IfOk result (λ text. string_bytes text ≡ missing_text_of scale missing) }
 {
-    let decimals = match scale {
-        Some(scale) => scale.get(),
-        None => 0,
-    };
-    sum_string(alloc, i128::from(missing), decimals)
-}
-
-fn entry_members(alloc: Global, rule: u32, line: u32, fault: EntryFault) -> Result<Object, Memory>
-    ensures { IfOk result (λ m. members_view m.entries ≡ member_put (codes "entry")
-        (whole (entry_fault_number_of fault)) (fault_at 4 rule line)) }
-{
-    let mut members = fault_at(alloc, 4, rule, line)?;
-    put(
-        &mut members,
-        alloc,
-        "entry",
-        Json::from(entry_fault_number(fault)),
-    )?;
-    Ok(members)
+    match scale {
+        Some(scale) => sum_string(alloc, i128::from(missing), scale.get()),
+        // Only a shortage tells a quantity, and it has a scale.
+        None => unreachable!(),
+    }
 }
 
 fn limit_members(alloc: Global, which: &str, number: u64) -> Result<Object, Memory>
@@ -269,7 +269,7 @@ fn word_fault_members(alloc: Global, fault: &WordFault) -> Result<Object, Memory
     Ok(members)
 }
 
-/// What the fault of a line tells besides its number.
+// What the fault of a line tells besides its number.
 fn word_fault_detail(alloc: Global, fault: &WordFault) -> Result<Object, Memory>
     ensures { IfOk result (λ m. members_view m.entries ≡ word_fault_detail fault.now) }
 {

@@ -2,19 +2,23 @@
 ghost use Rattle.std.specs.Prelude.{◌≡◌, Some, map, IfOk};
 ghost use Rattle.serde_json.specs.Data.{array};
 ghost use Rattle.serde_json.specs.View.{view, items_of, members_view};
-ghost use Rattle.desk_words.specs.ReplyTexts.{texts_data};
-ghost use Rattle.desk_words.specs.RequestTexts.{mark_name as mark_name_of, side_data, register_data, ledger_data, record_data, set_data, sets_data, filters_data, manual_frame, manual_members, balance_frame, balance_members, request_data};
+ghost use Rattle.desk_words.specs.JsonValues.{texts_data};
+ghost use Rattle.desk_words.specs.RequestTexts.{mark_name as mark_name_of, side_data};
+ghost use Rattle.desk_words.specs.RequestTexts.{register_data, ledger_data, record_data, set_data};
+ghost use Rattle.desk_words.specs.RequestTexts.{sets_data, filters_data, manual_frame};
+ghost use Rattle.desk_words.specs.RequestTexts.{manual_members, balance_frame, balance_members};
+ghost use Rattle.desk_words.specs.RequestTexts.{request_data};
 
+use crate::json_values::{ToJson, array_value, push_items, put_some, put_text, put_value, text};
 use crate::parsed::Object;
 use crate::request::{
     Balance, FilterText, LedgerText, Manual, RecordText, RegisterText, Request, SetText,
 };
-use crate::to_json::{ToJson, array_value, push_items, put_some, put_text, put_value, text};
 use reg_base::{List, Mark, Memory, Side};
 use serde_json::Value as Json;
 use std::alloc::Global;
 
-/// A request as JSON.
+// A request as JSON.
 #[tactic(auto, unfolding(crate::specs::RequestTexts::request_data))]
 pub(crate) fn request_value(alloc: Global, request: &Request) -> Result<Json, Memory>
     ensures { IfOk result (λ v. view v ≡ request_data request.now) }
@@ -37,7 +41,7 @@ fn manual_members(alloc: Global, manual: &Manual) -> Result<Object, Memory>
     Ok(members)
 }
 
-/// The members that are never absent.
+// The members that are never absent.
 #[tactic(auto, unfolding(crate::specs::RequestTexts::manual_frame))]
 fn manual_frame(alloc: Global, manual: &Manual) -> Result<Object, Memory>
     ensures { IfOk result (λ m. members_view m.entries ≡ manual_frame manual.now) }
@@ -63,7 +67,7 @@ fn balance_members(alloc: Global, balance: &Balance) -> Result<Object, Memory>
     Ok(members)
 }
 
-/// The members that are never absent.
+// The members that are never absent.
 #[tactic(auto, unfolding(crate::specs::RequestTexts::balance_frame))]
 fn balance_frame(alloc: Global, balance: &Balance) -> Result<Object, Memory>
     ensures { IfOk result (λ m. members_view m.entries ≡ balance_frame balance.now) }
@@ -78,7 +82,7 @@ fn balance_frame(alloc: Global, balance: &Balance) -> Result<Object, Memory>
 impl ToJson for List<FilterText> {
     ghost json = { filters_data };
 
-    /// An object with the values of each name, a name that comes twice with its later ones.
+    // An object with the values of each name, a name that comes twice with its later ones.
     fn to_json(&self, alloc: Global) -> Result<Json, Memory> {
         let mut members = Object::new(alloc);
         'filters: for filter in self.as_slice() {
@@ -163,7 +167,7 @@ fn ledger_value(alloc: Global, given: &LedgerText) -> Result<Json, Memory>
 impl ToJson for Option<Side> {
     ghost json = { side_data };
 
-    /// The account and its extras, or null where the side is absent.
+    // The account and its extras, or null where the side is absent.
     fn to_json(&self, alloc: Global) -> Result<Json, Memory> {
         match self {
             Some(side) => account_value(alloc, side),
@@ -172,7 +176,7 @@ impl ToJson for Option<Side> {
     }
 }
 
-#[tactic(auto, unfolding(crate::specs::ReplyTexts::texts_data))]
+#[tactic(auto, unfolding(crate::specs::JsonValues::texts_data))]
 fn account_value(alloc: Global, side: &Side) -> Result<Json, Memory>
     ensures { IfOk result (λ v. view v ≡ side_data (Some side.now)) }
 {

@@ -3,32 +3,24 @@ ghost use Rattle.std.specs.Prelude.{◌≡◌};
 ghost use Rattle.serde_json.specs.View.{view, members_view};
 ghost use Rattle.reg_base.specs.Results.{Gives};
 ghost use Rattle.desk_words.specs.declared.fault.WordFault.TheVariants.{Memory};
-ghost use Rattle.desk_words.specs.Shapes.{texts_of};
-ghost use Rattle.desk_words.specs.Sets.{mark_of, side_of, side_from, register_record, ledger_record, record_of, records_of, set_of, sets_of};
+ghost use Rattle.desk_words.specs.Sets.{json_mark, json_side, side_from, register_record};
+ghost use Rattle.desk_words.specs.Sets.{ledger_record, json_record, json_records, json_set};
+ghost use Rattle.desk_words.specs.Sets.{json_sets};
 
 use crate::fault::{Member, WordFault};
 use crate::parsed::{Object, count, member};
 use crate::request::{LedgerText, RecordText, RegisterText, SetText};
-use crate::shapes::{FromJson, list_of, object_of, read_at, text_of};
-use reg_base::{Code, List, Mark, Side, Text};
+use crate::shapes::{FromJson, json_list, json_object, json_text, read_at};
+use reg_base::{Code, List, Mark, Side};
 use serde_json::Value;
 use std::alloc::Global;
 
-impl FromJson for List<Text> {
-    ghost reads = { texts_of };
-
-    #[tactic(auto, unfolding(crate::specs::Shapes::texts_of))]
-    fn from_json(alloc: Global, within: Member, value: &Value) -> Result<List<Text>, WordFault> {
-        list_of(alloc, within, value)
-    }
-}
-
 impl FromJson for Mark {
-    ghost reads = { mark_of };
+    ghost reads = { json_mark };
 
-    #[tactic(auto, unfolding(crate::specs::Sets::mark_of))]
+    #[tactic(auto, unfolding(crate::specs::Sets::json_mark))]
     fn from_json(_alloc: Global, within: Member, value: &Value) -> Result<Mark, WordFault> {
-        match text_of(within, value)? {
+        match json_text(within, value)? {
             "receipt" => Ok(Mark::Receipt),
             "expense" => Ok(Mark::Expense),
             "turn" => Ok(Mark::Turn),
@@ -38,20 +30,20 @@ impl FromJson for Mark {
 }
 
 impl FromJson for Option<Side> {
-    ghost reads = { side_of };
+    ghost reads = { json_side };
 
-    /// Null where the side is absent.
-    #[tactic(auto, unfolding(crate::specs::Sets::side_of, crate::specs::Shapes::codes_of))]
+    // Null where the side is absent.
+    #[tactic(auto, unfolding(crate::specs::Sets::json_side, crate::specs::Shapes::json_codes))]
     fn from_json(alloc: Global, within: Member, value: &Value) -> Result<Option<Side>, WordFault> {
         if value.is_null() {
             return Ok(None);
         }
-        let codes = list_of::<Code>(alloc, within, value)?;
+        let codes = json_list::<Code>(alloc, within, value)?;
         Ok(Some(side_from(alloc, within, codes.as_slice())?))
     }
 }
 
-/// The first code is the account, the others its extras.
+// The first code is the account, the others its extras.
 fn side_from(alloc: Global, within: Member, codes: &[Code]) -> Result<Side, WordFault>
     ensures { Gives Memory result (side_from within codes.now) }
 {
@@ -99,12 +91,12 @@ fn ledger_record(alloc: Global, within: Member, object: &Object) -> Result<Ledge
 }
 
 impl FromJson for RecordText {
-    ghost reads = { record_of };
+    ghost reads = { json_record };
 
-    /// A record with an amount is one of a ledger.
-    #[tactic(auto, unfolding(crate::specs::Sets::record_of))]
+    // A record with an amount is one of a ledger.
+    #[tactic(auto, unfolding(crate::specs::Sets::json_record))]
     fn from_json(alloc: Global, within: Member, value: &Value) -> Result<RecordText, WordFault> {
-        let object = object_of(within, value)?;
+        let object = json_object(within, value)?;
         match member(object, "amount") {
             Some(_) => Ok(RecordText::Ledger(ledger_record(alloc, within, object)?)),
             None => Ok(RecordText::Register(register_record(alloc, within, object)?)),
@@ -113,24 +105,24 @@ impl FromJson for RecordText {
 }
 
 impl FromJson for List<RecordText> {
-    ghost reads = { records_of };
+    ghost reads = { json_records };
 
-    #[tactic(auto, unfolding(crate::specs::Sets::records_of))]
+    #[tactic(auto, unfolding(crate::specs::Sets::json_records))]
     fn from_json(
         alloc: Global,
         within: Member,
         value: &Value,
     ) -> Result<List<RecordText>, WordFault> {
-        list_of(alloc, within, value)
+        json_list(alloc, within, value)
     }
 }
 
 impl FromJson for SetText {
-    ghost reads = { set_of };
+    ghost reads = { json_set };
 
-    #[tactic(auto, unfolding(crate::specs::Sets::set_of))]
+    #[tactic(auto, unfolding(crate::specs::Sets::json_set))]
     fn from_json(alloc: Global, within: Member, value: &Value) -> Result<SetText, WordFault> {
-        let object = object_of(within, value)?;
+        let object = json_object(within, value)?;
         if count(object) != 2 {
             return Err(WordFault::BadMember { member: within });
         }
@@ -141,10 +133,10 @@ impl FromJson for SetText {
 }
 
 impl FromJson for List<SetText> {
-    ghost reads = { sets_of };
+    ghost reads = { json_sets };
 
-    #[tactic(auto, unfolding(crate::specs::Sets::sets_of))]
+    #[tactic(auto, unfolding(crate::specs::Sets::json_sets))]
     fn from_json(alloc: Global, within: Member, value: &Value) -> Result<List<SetText>, WordFault> {
-        list_of(alloc, within, value)
+        json_list(alloc, within, value)
     }
 }

@@ -6,7 +6,9 @@ ghost use Rattle.reg_base.specs.Results.{some_or, Gives, GivesAs};
 ghost use Rattle.desk_words.specs.declared.fault.Member.{Member as MemberOf};
 ghost use Rattle.desk_words.specs.declared.fault.WordFault.{WordFault as FaultOf};
 ghost use Rattle.desk_words.specs.declared.fault.WordFault.TheVariants.{Memory};
-ghost use Rattle.desk_words.specs.Shapes.{value_at, shape_at, object_of, items_of, text_of, name_of, code_of, date_of, cut_of, number_of, list_of};
+ghost use Rattle.desk_words.specs.Shapes.{value_at, shape_at, json_object, json_items, json_text};
+ghost use Rattle.desk_words.specs.Shapes.{json_name, json_code, json_date, json_cut, json_number};
+ghost use Rattle.desk_words.specs.Shapes.{json_list, json_texts};
 
 use crate::fault::{Member, WordFault};
 use crate::parsed::{Object, member};
@@ -14,16 +16,16 @@ use reg_base::{Code, Cut, Date, List, Name, Text};
 use serde_json::Value;
 use std::alloc::Global;
 
-/// What a JSON value is read as.
+// What a JSON value is read as.
 pub(crate) trait FromJson: Drop {
     ghost reads: { MemberOf → Data → Result Self FaultOf };
 
-    /// Reads a value that stands within a member.
+    // Reads a value that stands within a member.
     fn from_json(alloc: Global, within: Member, value: &Value) -> Result<Self, WordFault>
         ensures { Gives Memory result (reads within (view value.now)) };
 }
 
-/// Reads what an object has under a name.
+// Reads what an object has under a name.
 pub(crate) fn read_at<X: FromJson>(
     alloc: Global,
     within: Member,
@@ -36,7 +38,7 @@ pub(crate) fn read_at<X: FromJson>(
     X::from_json(alloc, within, value_at(within, name, object)?)
 }
 
-/// What an object has under a name.
+// What an object has under a name.
 #[tactic(auto, unfolding(crate::specs::Shapes::value_at))]
 fn value_at<'a>(within: Member, name: &str, object: &'a Object) -> Result<&'a Value, WordFault>
     ensures { GivesAs Memory (λ v. view v.now) result
@@ -48,10 +50,10 @@ fn value_at<'a>(within: Member, name: &str, object: &'a Object) -> Result<&'a Va
     }
 }
 
-#[tactic(auto, unfolding(crate::specs::Shapes::object_of))]
-pub(crate) fn object_of(within: Member, value: &Value) -> Result<&Object, WordFault>
+#[tactic(auto, unfolding(crate::specs::Shapes::json_object))]
+pub(crate) fn json_object(within: Member, value: &Value) -> Result<&Object, WordFault>
     ensures { GivesAs Memory (λ v. members_view v.now.entries) result
-        (object_of within (view value.now)) }
+        (json_object within (view value.now)) }
 {
     match value.as_object() {
         Some(object) => Ok(object),
@@ -59,10 +61,10 @@ pub(crate) fn object_of(within: Member, value: &Value) -> Result<&Object, WordFa
     }
 }
 
-#[tactic(auto, unfolding(crate::specs::Shapes::items_of))]
-fn items_of(within: Member, value: &Value) -> Result<&Vec<Value>, WordFault>
+#[tactic(auto, unfolding(crate::specs::Shapes::json_items))]
+fn json_items(within: Member, value: &Value) -> Result<&Vec<Value>, WordFault>
     ensures { GivesAs Memory (λ v. items_view v.now.items) result
-        (items_of within (view value.now)) }
+        (json_items within (view value.now)) }
 {
     match value.as_array() {
         Some(items) => Ok(items),
@@ -70,15 +72,15 @@ fn items_of(within: Member, value: &Value) -> Result<&Vec<Value>, WordFault>
     }
 }
 
-/// The items of a list, each read by its shape.
-pub(crate) fn list_of<X: FromJson>(
+// The items of a list, each read by its shape.
+pub(crate) fn json_list<X: FromJson>(
     alloc: Global,
     within: Member,
     value: &Value,
 ) -> Result<List<X>, WordFault>
-    ensures { Gives Memory result (list_of (X.reads within) within (view value.now)) }
+    ensures { Gives Memory result (json_list (X.reads within) within (view value.now)) }
 {
-    let items = items_of(within, value)?;
+    let items = json_items(within, value)?;
     let mut found = List::new(alloc);
     'items: for item in items {
         let next = X::from_json(alloc, within, item)?;
@@ -87,9 +89,9 @@ pub(crate) fn list_of<X: FromJson>(
     Ok(found)
 }
 
-#[tactic(auto, unfolding(crate::specs::Shapes::text_of))]
-pub(crate) fn text_of(within: Member, value: &Value) -> Result<&str, WordFault>
-    ensures { GivesAs Memory (λ s. s.now) result (text_of within (view value.now)) }
+#[tactic(auto, unfolding(crate::specs::Shapes::json_text))]
+pub(crate) fn json_text(within: Member, value: &Value) -> Result<&str, WordFault>
+    ensures { GivesAs Memory (λ s. s.now) result (json_text within (view value.now)) }
 {
     match value.as_str() {
         Some(text) => Ok(text),
@@ -98,20 +100,29 @@ pub(crate) fn text_of(within: Member, value: &Value) -> Result<&str, WordFault>
 }
 
 impl FromJson for Text {
-    ghost reads = { text_of };
+    ghost reads = { json_text };
 
     fn from_json(alloc: Global, within: Member, value: &Value) -> Result<Text, WordFault> {
-        let text = text_of(within, value)?;
+        let text = json_text(within, value)?;
         Ok(Text::from_str(alloc, text)?)
     }
 }
 
-impl FromJson for Name {
-    ghost reads = { name_of };
+impl FromJson for List<Text> {
+    ghost reads = { json_texts };
 
-    #[tactic(auto, unfolding(crate::specs::Shapes::name_of))]
+    #[tactic(auto, unfolding(crate::specs::Shapes::json_texts))]
+    fn from_json(alloc: Global, within: Member, value: &Value) -> Result<List<Text>, WordFault> {
+        json_list(alloc, within, value)
+    }
+}
+
+impl FromJson for Name {
+    ghost reads = { json_name };
+
+    #[tactic(auto, unfolding(crate::specs::Shapes::json_name))]
     fn from_json(_alloc: Global, within: Member, value: &Value) -> Result<Name, WordFault> {
-        let text = text_of(within, value)?;
+        let text = json_text(within, value)?;
         match Name::parse(text) {
             Some(name) => Ok(name),
             None => Err(WordFault::BadMember { member: within }),
@@ -120,11 +131,11 @@ impl FromJson for Name {
 }
 
 impl FromJson for Code {
-    ghost reads = { code_of };
+    ghost reads = { json_code };
 
-    #[tactic(auto, unfolding(crate::specs::Shapes::code_of))]
+    #[tactic(auto, unfolding(crate::specs::Shapes::json_code))]
     fn from_json(_alloc: Global, within: Member, value: &Value) -> Result<Code, WordFault> {
-        let text = text_of(within, value)?;
+        let text = json_text(within, value)?;
         match Code::parse(text) {
             Some(code) => Ok(code),
             None => Err(WordFault::BadMember { member: within }),
@@ -133,11 +144,11 @@ impl FromJson for Code {
 }
 
 impl FromJson for Date {
-    ghost reads = { date_of };
+    ghost reads = { json_date };
 
-    #[tactic(auto, unfolding(crate::specs::Shapes::date_of))]
+    #[tactic(auto, unfolding(crate::specs::Shapes::json_date))]
     fn from_json(_alloc: Global, within: Member, value: &Value) -> Result<Date, WordFault> {
-        let text = text_of(within, value)?;
+        let text = json_text(within, value)?;
         match Date::parse(text) {
             Ok(date) => Ok(date),
             Err(_) => Err(WordFault::BadMember { member: within }),
@@ -146,9 +157,9 @@ impl FromJson for Date {
 }
 
 impl FromJson for u32 {
-    ghost reads = { number_of };
+    ghost reads = { json_number };
 
-    #[tactic(auto, unfolding(crate::specs::Shapes::number_of))]
+    #[tactic(auto, unfolding(crate::specs::Shapes::json_number))]
     fn from_json(_alloc: Global, within: Member, value: &Value) -> Result<u32, WordFault> {
         match value.as_u64() {
             Some(n) if n >= 1 && n <= 4_294_967_295 => Ok(n as u32),
@@ -157,11 +168,11 @@ impl FromJson for u32 {
     }
 }
 
-#[tactic(auto, unfolding(crate::specs::Shapes::cut_of))]
-pub(crate) fn cut_of(within: Member, value: &Value) -> Result<Cut, WordFault>
-    ensures { Gives Memory result (cut_of within (view value.now)) }
+#[tactic(auto, unfolding(crate::specs::Shapes::json_cut))]
+pub(crate) fn json_cut(within: Member, value: &Value) -> Result<Cut, WordFault>
+    ensures { Gives Memory result (json_cut within (view value.now)) }
 {
-    let text = text_of(within, value)?;
+    let text = json_text(within, value)?;
     match Cut::parse(text) {
         Ok(cut) => Ok(cut),
         Err(_) => Err(WordFault::BadMember { member: within }),

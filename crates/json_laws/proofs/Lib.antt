@@ -1,3 +1,6 @@
-pub mod ReadBack
-pub mod Texts
+pub mod ForAbove
+mod LineLemmas
+mod ReadBack
+mod Texts
 mod Values
+mod WorkedRows

@@ -1,9 +1,11 @@
 -- Values that are read back from their compact text.
-use Rattle.std.specs.Prelude.{◌≡◌, ℕ, ◌<◌, ◌^◌, List, Bool, true, ◌&&◌, ⊤}
+use Rattle.std.specs.Prelude.{◌≡◌, ℕ, pos, negsuc, ◌<◌, ◌^◌, List, Bool, true, ◌&&◌, ⊤}
 use Rattle.std.specs.Str.{IsUtf8}
 use Rattle.std.specs.Ordering.{nat_cmp, is_gt}
 use Rattle.std.specs.Cmp.Lexicographic.{slice_cmp}
-use Rattle.serde_json.specs.Data.{Num, unsigned, negative, float, Data, null, boolean, number, string, array, object, Items, no_items, item, Members, no_members, member}
+use Rattle.serde_json.specs.Data.{Num, unsigned, negative, float, Data, null, boolean, number}
+use Rattle.serde_json.specs.Data.{string, array, object, Items, no_items, item, Members, no_members}
+use Rattle.serde_json.specs.Data.{member}
 
 -- all texts and names in a value are UTF-8
 abbrev mutual
@@ -23,10 +25,11 @@ abbrev mutual
   MembersHaveUtf8 no_members = ⊤
   MembersHaveUtf8 (member k d ms) = IsUtf8 k × HasUtf8 d × MembersHaveUtf8 ms
 
--- a whole number of 64 bits
+-- a whole number of 64 bits, from 0 on or below 0
 abbrev pub IsWhole : Num → Type 0
 IsWhole (unsigned n) = n < 2 ^ 64
-IsWhole (negative z) = ⊥
+IsWhole (negative (pos n)) = ⊥
+IsWhole (negative (negsuc n)) = n < 2 ^ 63
 IsWhole (float x) = ⊥
 
 -- whether a name stands before each name of the members
@@ -38,7 +41,7 @@ stands_before k (member l e ms) = is_gt (slice_cmp nat_cmp l k) && stands_before
 abbrev pub IsNameBefore : List ℕ → Members → Type 0
 IsNameBefore k ms = IsUtf8 k × (stands_before k ms ≡ true)
 
--- a value whose numbers are whole, whose texts are UTF-8, and whose names stand in order, each once
+-- a value without floats, whose texts are UTF-8, and whose names stand in order, each once
 abbrev mutual
   pub IsPlain : Data → Type 0
   IsPlain null = ⊤

@@ -1,5 +1,6 @@
 -- Codes and names are short and ASCII.
-use Rattle.std.proofs.Common.{◌≡◌, ℕ, ◌<◌, ◌≤◌, Bool, true, ◌&&◌, zero, suc, List, [], ◌∷◌, length, arith}
+use Rattle.std.proofs.Common.{◌≡◌, ℕ, ◌<◌, ◌≤◌, Bool, true, ◌&&◌, zero, suc, List, [], ◌∷◌, length}
+use Rattle.std.proofs.Common.{arith}
 use Rattle.std.specs.List.{list_all}
 use Rattle.std.specs.Str.{IsAscii}
 use Rattle.std.specs.Char.{is_ascii_lowercase}
@@ -19,10 +20,12 @@ lowercase-below : (b : ℕ) → is_ascii_lowercase b ≡ true → b < 128
 lowercase-below b h = grind (arith, nat_tests)
 
 -- where a test lets only bytes below 128 through, those that pass are ASCII
-pub IsAscii-from_test : (test : ℕ → Bool) → ((b : ℕ) → test b ≡ true → b < 128) → (bs : List ℕ) → list_all test bs ≡ true → IsAscii bs
+pub IsAscii-from_test : (test : ℕ → Bool) → ((b : ℕ) → test b ≡ true → b < 128) → (bs : List ℕ)
+    → list_all test bs ≡ true → IsAscii bs
 IsAscii-from_test test low [] h i = omega arith
 IsAscii-from_test test low (b ∷ bs) h zero = low b (both (test b) (list_all test bs) h).0
-IsAscii-from_test test low (b ∷ bs) h (suc i) = IsAscii-from_test test low bs (both (test b) (list_all test bs) h).1 i
+IsAscii-from_test test low (b ∷ bs) h (suc i) =
+    IsAscii-from_test test low bs (both (test b) (list_all test bs) h).1 i
 
 pub length-code : (bs : List ℕ) → is_code bs ≡ true → length bs ≤ 32
 unfolding is_code
@@ -41,4 +44,5 @@ pub IsAscii-name : (bs : List ℕ) → is_name bs ≡ true → IsAscii bs
 unfolding is_name
 IsAscii-name [] h i = omega arith
 IsAscii-name (b ∷ bs) h zero = lowercase-below b (both _ _ h).0
-IsAscii-name (b ∷ bs) h (suc i) = IsAscii-from_test is_name_byte name_byte-below bs (both _ _ (both _ _ h).1).1 i
+IsAscii-name (b ∷ bs) h (suc i) =
+    IsAscii-from_test is_name_byte name_byte-below bs (both _ _ (both _ _ h).1).1 i

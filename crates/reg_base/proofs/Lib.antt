@@ -1,16 +1,18 @@
-pub mod CodeLemmas
-pub mod DateTextLemmas
-pub mod DayLemmas
-pub mod DigitLemmas
-pub mod NumberLemmas
-pub mod PointTextLemmas
-pub mod RangeLemmas
-pub mod ResultLemmas
-pub mod SumTextLemmas
-pub mod TextLemmas
-pub mod Utf8Lemmas
-mod WorkedRows
-pub mod OrderLemmas
-pub mod OnceLemmas
-pub mod BalanceLemmas
+mod BalanceLemmas
 mod BalanceRows
+mod CodeLemmas
+mod DateTextLemmas
+mod DayLemmas
+mod DigitLemmas
+pub mod ForAbove
+mod NumberLemmas
+mod OnceLemmas
+mod OrderLemmas
+mod PermutationLemmas
+mod PointTextLemmas
+mod RangeLemmas
+mod ResultLemmas
+mod SumTextLemmas
+mod TextLemmas
+mod Utf8Lemmas
+mod WorkedRows

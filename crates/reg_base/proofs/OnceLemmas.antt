@@ -7,7 +7,8 @@ use Rattle.std.specs.declared.cmp.Ordering.{Ordering}
 use Rattle.std.specs.declared.cmp.Ordering.TheVariants.{Less, Equal, Greater}
 use Rattle.reg_base.specs.Records.{put_once}
 
-module _ {X : Type 0} {R : X → X → Ordering} (o : IsTotalOrder R) (exact : CmpEqualImpliesEq R) where
+module _ {X : Type 0} {R : X → X → Ordering} (o : IsTotalOrder R)
+    (exact : CmpEqualImpliesEq R) where
   -- where the first is not below, it stays
   pub put_once-Less : (x y : X) (ys : List X) → R x y ≡ Less → put_once R x (y ∷ ys) ≡ x ∷ y ∷ ys
   put_once-Less x y ys h = ap (λ r. match_ordering r (x ∷ y ∷ ys) (y ∷ ys) (y ∷ put_once R x ys)) h
@@ -15,14 +16,22 @@ module _ {X : Type 0} {R : X → X → Ordering} (o : IsTotalOrder R) (exact : C
   pub put_once-Equal : (x y : X) (ys : List X) → R x y ≡ Equal → put_once R x (y ∷ ys) ≡ y ∷ ys
   put_once-Equal x y ys h = ap (λ r. match_ordering r (x ∷ y ∷ ys) (y ∷ ys) (y ∷ put_once R x ys)) h
 
-  pub put_once-Greater : (x y : X) (ys : List X) → R x y ≡ Greater → put_once R x (y ∷ ys) ≡ y ∷ put_once R x ys
-  put_once-Greater x y ys h = ap (λ r. match_ordering r (x ∷ y ∷ ys) (y ∷ ys) (y ∷ put_once R x ys)) h
+  pub put_once-Greater : (x y : X) (ys : List X) → R x y ≡ Greater
+      → put_once R x (y ∷ ys) ≡ y ∷ put_once R x ys
+  put_once-Greater x y ys h =
+      ap (λ r. match_ordering r (x ∷ y ∷ ys) (y ∷ ys) (y ∷ put_once R x ys)) h
 
   -- two elements before a list
-  both-first : (a b : X) (t : List X) (r s : Ordering) → s ≡ ordering_reverse r → (r ≡ Equal → a ≡ b) → match_ordering r (a ∷ b ∷ t) (b ∷ t) (b ∷ a ∷ t) ≡ match_ordering s (b ∷ a ∷ t) (a ∷ t) (a ∷ b ∷ t)
-  both-first a b t Less s e same = ap (λ q. match_ordering q (b ∷ a ∷ t) (a ∷ t) (a ∷ b ∷ t)) (sym e)
-  both-first a b t Equal s e same = ap (λ x. x ∷ t) (sym (same refl)) ∙ ap (λ q. match_ordering q (b ∷ a ∷ t) (a ∷ t) (a ∷ b ∷ t)) (sym e)
-  both-first a b t Greater s e same = ap (λ q. match_ordering q (b ∷ a ∷ t) (a ∷ t) (a ∷ b ∷ t)) (sym e)
+  both-first : (a b : X) (t : List X) (r s : Ordering) → s ≡ ordering_reverse r
+      → (r ≡ Equal → a ≡ b) → match_ordering r (a ∷ b ∷ t) (b ∷ t) (b ∷ a ∷ t)
+      ≡ match_ordering s (b ∷ a ∷ t) (a ∷ t) (a ∷ b ∷ t)
+  both-first a b t Less s e same =
+      ap (λ q. match_ordering q (b ∷ a ∷ t) (a ∷ t) (a ∷ b ∷ t)) (sym e)
+  both-first a b t Equal s e same =
+      ap (λ x. x ∷ t) (sym (same refl)) ∙ ap (λ q. match_ordering q (b ∷ a ∷ t) (a ∷ t) (a ∷ b ∷ t))
+      (sym e)
+  both-first a b t Greater s e same =
+      ap (λ q. match_ordering q (b ∷ a ∷ t) (a ∷ t) (a ∷ b ∷ t)) (sym e)
 
   below : (a h : X) → R a h ≡ Less → R h a ≡ Greater
   below a h p = o.antisymm h a ∙ ap ordering_reverse p
@@ -31,29 +40,41 @@ module _ {X : Type 0} {R : X → X → Ordering} (o : IsTotalOrder R) (exact : C
   above a h p = o.antisymm h a ∙ ap ordering_reverse p
 
   -- a is below the head, and b is the head
-  first-below-same : (a b h : X) (hs : List X) → R a h ≡ Less → R b h ≡ Equal → put_once R a (put_once R b (h ∷ hs)) ≡ put_once R b (put_once R a (h ∷ hs))
+  first-below-same : (a b h : X) (hs : List X) → R a h ≡ Less → R b h ≡ Equal
+      → put_once R a (put_once R b (h ∷ hs)) ≡ put_once R b (put_once R a (h ∷ hs))
   first-below-same a b h hs p q =
       ap (put_once R a) (put_once-Equal b h hs q) ∙ put_once-Less a h hs p
-      ∙ sym (ap (put_once R b) (put_once-Less a h hs p) ∙ put_once-Greater b a (h ∷ hs) (o.congr b h a q ∙ below a h p) ∙ ap (λ t. a ∷ t) (put_once-Equal b h hs q))
+      ∙ sym (ap (put_once R b) (put_once-Less a h hs p)
+      ∙ put_once-Greater b a (h ∷ hs) (o.congr b h a q ∙ below a h p)
+      ∙ ap (λ t. a ∷ t) (put_once-Equal b h hs q))
 
   -- a is below the head, and b above it
-  first-below-above : (a b h : X) (hs : List X) → R a h ≡ Less → R b h ≡ Greater → put_once R a (put_once R b (h ∷ hs)) ≡ put_once R b (put_once R a (h ∷ hs))
+  first-below-above : (a b h : X) (hs : List X) → R a h ≡ Less → R b h ≡ Greater
+      → put_once R a (put_once R b (h ∷ hs)) ≡ put_once R b (put_once R a (h ∷ hs))
   first-below-above a b h hs p q =
       ap (put_once R a) (put_once-Greater b h hs q) ∙ put_once-Less a h (put_once R b hs) p
-      ∙ sym (ap (put_once R b) (put_once-Less a h hs p) ∙ put_once-Greater b a (h ∷ hs) (below a b (o.trans a h b p (above b h q))) ∙ ap (λ t. a ∷ t) (put_once-Greater b h hs q))
+      ∙ sym (ap (put_once R b) (put_once-Less a h hs p)
+      ∙ put_once-Greater b a (h ∷ hs) (below a b (o.trans a h b p (above b h q)))
+      ∙ ap (λ t. a ∷ t) (put_once-Greater b h hs q))
 
   -- a is the head, and b above it
-  first-same-above : (a b h : X) (hs : List X) → R a h ≡ Equal → R b h ≡ Greater → put_once R a (put_once R b (h ∷ hs)) ≡ put_once R b (put_once R a (h ∷ hs))
+  first-same-above : (a b h : X) (hs : List X) → R a h ≡ Equal → R b h ≡ Greater
+      → put_once R a (put_once R b (h ∷ hs)) ≡ put_once R b (put_once R a (h ∷ hs))
   first-same-above a b h hs p q =
       ap (put_once R a) (put_once-Greater b h hs q) ∙ put_once-Equal a h (put_once R b hs) p
       ∙ sym (ap (put_once R b) (put_once-Equal a h hs p) ∙ put_once-Greater b h hs q)
 
-  at-head : (a b h : X) (hs : List X) (r s : Ordering) → R a h ≡ r → R b h ≡ s → put_once R a (put_once R b hs) ≡ put_once R b (put_once R a hs) → put_once R a (put_once R b (h ∷ hs)) ≡ put_once R b (put_once R a (h ∷ hs))
+  at-head : (a b h : X) (hs : List X) (r s : Ordering) → R a h ≡ r → R b h ≡ s
+      → put_once R a (put_once R b hs) ≡ put_once R b (put_once R a hs)
+      → put_once R a (put_once R b (h ∷ hs)) ≡ put_once R b (put_once R a (h ∷ hs))
   at-head a b h hs Less Less p q ih =
       ap (put_once R a) (put_once-Less b h hs q)
-      ∙ ap (λ t. match_ordering (R a b) (a ∷ b ∷ h ∷ hs) (b ∷ h ∷ hs) (b ∷ t)) (put_once-Less a h hs p)
+      ∙ ap (λ t. match_ordering (R a b) (a ∷ b ∷ h ∷ hs) (b ∷ h ∷ hs) (b ∷ t))
+      (put_once-Less a h hs p)
       ∙ both-first a b (h ∷ hs) (R a b) (R b a) (o.antisymm b a) (exact a b)
-      ∙ sym (ap (put_once R b) (put_once-Less a h hs p) ∙ ap (λ t. match_ordering (R b a) (b ∷ a ∷ h ∷ hs) (a ∷ h ∷ hs) (a ∷ t)) (put_once-Less b h hs q))
+      ∙ sym (ap (put_once R b) (put_once-Less a h hs p)
+      ∙ ap (λ t. match_ordering (R b a) (b ∷ a ∷ h ∷ hs) (a ∷ h ∷ hs) (a ∷ t))
+      (put_once-Less b h hs q))
   at-head a b h hs Less Equal p q ih = first-below-same a b h hs p q
   at-head a b h hs Less Greater p q ih = first-below-above a b h hs p q
   at-head a b h hs Equal Less p q ih = sym (first-below-same b a h hs q p)
@@ -64,10 +85,14 @@ module _ {X : Type 0} {R : X → X → Ordering} (o : IsTotalOrder R) (exact : C
   at-head a b h hs Greater Less p q ih = sym (first-below-above b a h hs q p)
   at-head a b h hs Greater Equal p q ih = sym (first-same-above b a h hs q p)
   at-head a b h hs Greater Greater p q ih =
-      ap (put_once R a) (put_once-Greater b h hs q) ∙ put_once-Greater a h (put_once R b hs) p ∙ ap (λ t. h ∷ t) ih
-      ∙ sym (ap (put_once R b) (put_once-Greater a h hs p) ∙ put_once-Greater b h (put_once R a hs) q)
+      ap (put_once R a) (put_once-Greater b h hs q) ∙ put_once-Greater a h (put_once R b hs) p
+      ∙ ap (λ t. h ∷ t) ih
+      ∙ sym (ap (put_once R b) (put_once-Greater a h hs p)
+      ∙ put_once-Greater b h (put_once R a hs) q)
 
   -- two elements may be put in either order
-  pub put_once-put_once : (a b : X) (xs : List X) → put_once R a (put_once R b xs) ≡ put_once R b (put_once R a xs)
+  pub put_once-put_once : (a b : X) (xs : List X) → put_once R a (put_once R b xs)
+      ≡ put_once R b (put_once R a xs)
   put_once-put_once a b [] = both-first a b [] (R a b) (R b a) (o.antisymm b a) (exact a b)
-  put_once-put_once a b (h ∷ hs) = at-head a b h hs (R a h) (R b h) refl refl (put_once-put_once a b hs)
+  put_once-put_once a b (h ∷ hs) =
+      at-head a b h hs (R a h) (R b h) refl refl (put_once-put_once a b hs)

@@ -22,7 +22,9 @@ derived-value_cmp (Lot p) (Code b) = refl
 derived-value_cmp (Lot p) (Lot q) = refl
 
 pub point_cmp_total : IsTotalOrder point_cmp
-point_cmp_total = then_total (on_total (λ (p : Point). p.date) nat_cmp_total) (on_total (λ (p : Point). p.doc) nat_cmp_total)
+point_cmp_total =
+    then_total (on_total (λ (p : Point). p.date) nat_cmp_total)
+    (on_total (λ (p : Point). p.doc) nat_cmp_total)
 
 then-Equal : (a b : Ordering) → ordering_then a b ≡ Equal → (a ≡ Equal) × (b ≡ Equal)
 then-Equal Less b h = (cc, cc)
@@ -32,10 +34,11 @@ then-Equal Greater b h = (cc, cc)
 pub point_cmp_exact : CmpEqualImpliesEq point_cmp
 point_cmp_exact p q h =
     let parts = then-Equal (nat_cmp p.date q.date) (nat_cmp p.doc q.doc) h in
-    ap (λ d. made d p.doc) (exact_unsigned _ _ parts.0) ∙ ap (made q.date) (exact_unsigned _ _ parts.1)
+    ap (λ d. point_at d p.doc) (exact_unsigned _ _ parts.0)
+    ∙ ap (point_at q.date) (exact_unsigned _ _ parts.1)
   where
-    made : ℕ → ℕ → Point
-    made date doc = record { date = date; doc = doc }
+    point_at : ℕ → ℕ → Point
+    point_at date doc = record { date = date; doc = doc }
 
 pub value_cmp_total : IsTotalOrder value_cmp
 value_cmp_total = record {
@@ -77,7 +80,8 @@ pub values_cmp_total : IsTotalOrder values_cmp
 values_cmp_total = lists_total value_cmp_total
 
 -- an order that tells elements apart tells lists apart
-exact_lists : {X : Type 0} (R : X → X → Ordering) → CmpEqualImpliesEq R → CmpEqualImpliesEq (slice_cmp R)
+exact_lists : {X : Type 0} (R : X → X → Ordering) → CmpEqualImpliesEq R
+    → CmpEqualImpliesEq (slice_cmp R)
 exact_lists R exact [] [] h = refl
 exact_lists R exact [] (y ∷ ys) h = cc
 exact_lists R exact (x ∷ xs) [] h = cc

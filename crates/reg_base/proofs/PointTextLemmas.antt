@@ -1,20 +1,26 @@
 -- The texts of points and cuts are read back to them.
-use Rattle.std.proofs.Common.{◌≡◌, ℕ, zero, suc, ◌+◌, ◌/◌, ◌%◌, ◌^◌, ◌<◌, ◌==◌, true, false, ◌||◌, nat_lt, List, length, get_or, ◌++◌, ◌∷◌, Ok, refl, ◌∙◌, arith, rules, tests, inl, inr}
+use Rattle.std.proofs.Common.{◌≡◌, ℕ, zero, suc, ◌+◌, ◌/◌, ◌%◌, ◌^◌, ◌<◌, ◌==◌, true, false, ◌||◌}
+use Rattle.std.proofs.Common.{nat_lt, List, length, get_or, ◌++◌, ◌∷◌, Ok, refl, ◌∙◌, arith, rules}
+use Rattle.std.proofs.Common.{tests, inl, inr}
 use Rattle.std.specs.List.{list_all}
 use Rattle.std.specs.Char.{is_ascii_digit}
 use Rattle.std.specs.Fmt.{decimal}
 use Rattle.std.proofs.lemmas.Bool.{cases_lt}
 use Rattle.std.proofs.lemmas.Bool.Decides.{nat_tests}
 use Rattle.std.proofs.lemmas.Str.Parse.{IsNumeralModel, numerals_by_fold}
-use Rattle.std.proofs.lemmas.Fmt.{digits_decimal, digits_value-decimal, decimal_nonempty, first_decimal}
+use Rattle.std.proofs.lemmas.Fmt.{digits_decimal, digits_value-decimal, decimal_nonempty}
+use Rattle.std.proofs.lemmas.Fmt.{first_decimal}
 use Rattle.reg_base.specs.declared.cut.Cut.{Cut}
-use Rattle.reg_base.specs.declared.cut.Cut.TheVariants.{Now, BeforeDate, ThroughDate, BeforePoint, ThroughPoint}
+use Rattle.reg_base.specs.declared.cut.Cut.TheVariants.{Now, BeforeDate, ThroughDate, BeforePoint}
+use Rattle.reg_base.specs.declared.cut.Cut.TheVariants.{ThroughPoint}
 use Rattle.reg_base.specs.declared.point.Point.{Point}
 use Rattle.reg_base.specs.Numbers.{read_on, decimal_value, last_digits, number_text}
 use Rattle.reg_base.specs.Dates.{date_text, day_text, second_text}
-use Rattle.reg_base.specs.Cuts.{IsCut, has_byte, parse_cut, cut_by_word, cut_before, cut_through, cut_alone, cut_text}
+use Rattle.reg_base.specs.Cuts.{IsCut, has_byte, parse_cut, cut_by_word, cut_before, cut_through}
+use Rattle.reg_base.specs.Cuts.{cut_alone, cut_text}
 use Rattle.std.proofs.lemmas.List.Folds.{list_any-append}
-use Rattle.reg_base.specs.Points.{IsPoint, has_leading_zero, is_whole_number, doc_number, parse_point, point_text}
+use Rattle.reg_base.specs.Points.{IsPoint, has_leading_zero, is_whole_number, doc_number}
+use Rattle.reg_base.specs.Points.{parse_point, point_text}
 use Rattle.reg_base.proofs.NumberLemmas.{decimal-number_text}
 use Rattle.reg_base.proofs.DateTextLemmas.{parse_date-text, parse_long_date-text}
 
@@ -26,10 +32,12 @@ number_text-decimal : (n : ℕ) → n < 2 ^ 64 → decimal n ≡ number_text n
 number_text-decimal n small = decimal-number_text n (omega arith)
 
 pub all_digits-number_text : (n : ℕ) → n < 2 ^ 64 → list_all is_ascii_digit (number_text n) ≡ true
-all_digits-number_text n small = rw (number_text-decimal n small) at (digits_decimal numerals n small)
+all_digits-number_text n small =
+    rw (number_text-decimal n small) at (digits_decimal numerals n small)
 
 pub decimal_value-number_text : (n : ℕ) → n < 2 ^ 64 → decimal_value (number_text n) ≡ n
-decimal_value-number_text n small = rw (number_text-decimal n small) at (digits_value-decimal numerals n small)
+decimal_value-number_text n small =
+    rw (number_text-decimal n small) at (digits_value-decimal numerals n small)
 
 pub number_text-some : (n : ℕ) → n < 2 ^ 64 → 0 < length (number_text n)
 number_text-some n small = rw (number_text-decimal n small) at (decimal_nonempty n small)
@@ -56,7 +64,8 @@ unfolding doc_number is_whole_number
 doc_number-text n small =
     let wide : n < 2 ^ 64 = omega arith in
     let zero_free = no_leading_zero n wide in
-    let some : nat_lt 0 (length (number_text n)) ≡ true = search (rules, tests, number_text-some n wide) in
+    let some : nat_lt 0 (length (number_text n)) ≡ true =
+    search (rules, tests, number_text-some n wide) in
     let digits = all_digits-number_text n wide in
     let value = decimal_value-number_text n wide in
     let fits : nat_lt n (2 ^ 32) ≡ true = search (rules, tests) in
@@ -75,7 +84,8 @@ no_hash_in_digits (suc k) n =
     let digit : (48 + n / 10 ^ k % 10 == 35) ≡ false = grind (arith, nat_tests) in
     rw digit (no_hash_in_digits k n)
 
-has_byte-append : (byte : ℕ) (front back : List ℕ) → has_byte byte (front ++ back) ≡ (has_byte byte front || has_byte byte back)
+has_byte-append : (byte : ℕ) (front back : List ℕ) → has_byte byte (front ++ back)
+    ≡ (has_byte byte front || has_byte byte back)
 has_byte-append byte front back = list_any-append (λ b. b == byte) front back
 
 no_hash : (n : ℕ) → (48 + n == 35) ≡ false

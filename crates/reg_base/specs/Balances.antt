@@ -1,21 +1,23 @@
 -- Balances: the sums over the records that are asked for and lie inside a cut.
-use Rattle.std.specs.Prelude.{ℕ, ℤ, pos, ◌+ℤ◌, Bool, not, Option, Some, None, if◌then◌else◌, List, [], ◌∷◌, map, filter, slice_get}
+use Rattle.std.specs.Prelude.{ℕ, ℤ, pos, ◌+ℤ◌, Bool, not, Option, Some, None, if◌then◌else◌, List}
+use Rattle.std.specs.Prelude.{[], ◌∷◌, map, filter, slice_get}
 use Rattle.std.specs.List.{list_any, filter_map, range_with_len}
 use Rattle.std.specs.Ordering.{is_eq, int_eq}
 use Rattle.reg_base.specs.declared.value.Value.{Value}
 use Rattle.reg_base.specs.declared.records.Filter.{Filter}
 use Rattle.reg_base.specs.declared.records.SumRow.{SumRow}
 use Rattle.reg_base.specs.declared.cut.Cut.{Cut}
-use Rattle.reg_base.specs.Records.{Booked, values_cmp, put_once, amount_at, chosen, within}
+use Rattle.reg_base.specs.Records.{Booked, values_cmp, put_once, amount_at, chosen_records}
+use Rattle.reg_base.specs.Records.{records_within}
 
 -- the values that a record is grouped by: those of the dimensions named, or all
-abbrev pub grouped : Option (List ℕ) → List Value → List Value
-grouped None values = values
-grouped (Some dimensions) values = filter_map (λ d. slice_get values d) dimensions
+abbrev pub group_values : Option (List ℕ) → List Value → List Value
+group_values None values = values
+group_values (Some dimensions) values = filter_map (λ d. slice_get values d) dimensions
 
 -- the group of a record
 abbrev pub group_of : Option (List ℕ) → Booked → List Value
-group_of by b = grouped by b.rec.values
+group_of by b = group_values by b.rec.values
 
 -- the distinct groups of the records, in order
 abbrev pub groups_of : Option (List ℕ) → List Booked → List (List Value)
@@ -23,14 +25,14 @@ groups_of by [] = []
 groups_of by (b ∷ bs) = put_once values_cmp (group_of by b) (groups_of by bs)
 
 -- what a record adds to a group: its signed amount where it belongs there
-abbrev pub share : Option (List ℕ) → List Value → ℕ → Booked → ℤ
-share by group resource b =
+abbrev pub contribution : Option (List ℕ) → List Value → ℕ → Booked → ℤ
+contribution by group resource b =
     if is_eq (values_cmp (group_of by b) group) then amount_at resource b.rec else pos 0
 
 -- the sum of a group at a resource
 abbrev pub total : Option (List ℕ) → List Value → List Booked → ℕ → ℤ
 total by group [] resource = pos 0
-total by group (b ∷ bs) resource = share by group resource b +ℤ total by group bs resource
+total by group (b ∷ bs) resource = contribution by group resource b +ℤ total by group bs resource
 
 -- the row of a group, with its sum at each of so many resources
 abbrev pub row_of : ℕ → Option (List ℕ) → List Booked → List Value → SumRow
@@ -48,4 +50,5 @@ sum_rows resources by records =
 
 -- the balance: the sums over the records that are asked for and lie inside the cut
 abbrev pub balance_of : ℕ → List Booked → Filter → Option (List ℕ) → Cut → List SumRow
-balance_of resources records asked by cut = sum_rows resources by (within cut (chosen asked records))
+balance_of resources records asked by cut =
+    sum_rows resources by (records_within cut (chosen_records asked records))

@@ -1,9 +1,11 @@
 -- Cuts: which points lie inside one, and how one is spelt.
-use Rattle.std.specs.Prelude.{ℕ, Bool, true, ◌<◌, ◌==◌, nat_lt, nat_le, if◌then◌else◌, List, ◌++◌, bytes_eq, codes, Result, Ok, Err}
+use Rattle.std.specs.Prelude.{ℕ, Bool, true, ◌<◌, ◌==◌, nat_lt, nat_le, if◌then◌else◌, List, ◌++◌}
+use Rattle.std.specs.Prelude.{bytes_eq, codes, Result, Ok, Err}
 use Rattle.std.specs.List.{list_any, before_first, after_first}
 use Rattle.std.specs.Ordering.{is_lt, is_le}
 use Rattle.reg_base.specs.declared.cut.Cut.{Cut}
-use Rattle.reg_base.specs.declared.cut.Cut.TheVariants.{Now, BeforeDate, ThroughDate, BeforePoint, ThroughPoint}
+use Rattle.reg_base.specs.declared.cut.Cut.TheVariants.{Now, BeforeDate, ThroughDate, BeforePoint}
+use Rattle.reg_base.specs.declared.cut.Cut.TheVariants.{ThroughPoint}
 use Rattle.reg_base.specs.declared.date.DateFault.{DateFault}
 use Rattle.reg_base.specs.declared.date.DateFault.TheVariants.{NotADate}
 use Rattle.reg_base.specs.declared.point.Point.{Point}

@@ -1,5 +1,7 @@
 -- Dates: seconds since 2000-01-01T00:00:00, how a date is spelt, and its text.
-use Rattle.std.specs.Prelude.{ℕ, zero, suc, ◌+◌, ◌-◌, ◌*◌, ◌/◌, ◌%◌, ◌==◌, ◌&&◌, nat_lt, nat_le, if◌then◌else◌, Bool, List, ◌++◌, ◌∷◌, length, slice_index, slice_range, pos, Result, Ok, Err}
+use Rattle.std.specs.Prelude.{ℕ, zero, suc, ◌+◌, ◌-◌, ◌*◌, ◌/◌, ◌%◌, ◌==◌, ◌&&◌, nat_lt, nat_le}
+use Rattle.std.specs.Prelude.{if◌then◌else◌, Bool, List, ◌++◌, ◌∷◌, length, slice_index}
+use Rattle.std.specs.Prelude.{slice_range, pos, Result, Ok, Err}
 use Rattle.std.specs.List.{list_all}
 use Rattle.std.specs.Char.{is_ascii_digit}
 use Rattle.jiff_core.specs.Calendar.{days_in_year, days_in_month, day_count}
@@ -10,8 +12,8 @@ use Rattle.reg_base.specs.Results.{◌>>=◌, unless}
 use Rattle.reg_base.specs.Numbers.{decimal_value, last_digits}
 
 -- the number that the digits from one place to another spell
-unfoldable pub number_at : List ℕ → ℕ → ℕ → Result ℕ DateFault
-number_at text from to =
+unfoldable pub number_between : List ℕ → ℕ → ℕ → Result ℕ DateFault
+number_between text from to =
     let digits = slice_range text from to in
     if list_all is_ascii_digit digits then Ok (decimal_value digits) else Err NotADate
 
@@ -19,9 +21,9 @@ number_at text from to =
 unfoldable pub day_spelt : List ℕ → Result Day DateFault
 day_spelt text = do
   _ ← unless ((slice_index text 4 == 45) && (slice_index text 7 == 45)) NotADate
-  year ← number_at text 0 4
-  month ← number_at text 5 7
-  day ← number_at text 8 10
+  year ← number_between text 0 4
+  month ← number_between text 5 7
+  day ← number_between text 8 10
   Ok (record { year = year; month = month; day = day })
 
 -- the second of the day that stands behind it, spelt `Thh:mm:ss`
@@ -29,9 +31,9 @@ unfoldable pub second_spelt : List ℕ → Result ℕ DateFault
 second_spelt text = do
   _ ← unless ((slice_index text 10 == 84) && (slice_index text 13 == 58)
       && (slice_index text 16 == 58)) NotADate
-  hour ← number_at text 11 13
-  minute ← number_at text 14 16
-  second ← number_at text 17 19
+  hour ← number_between text 11 13
+  minute ← number_between text 14 16
+  second ← number_between text 17 19
   _ ← unless (nat_lt hour 24 && nat_lt minute 60 && nat_lt second 60) NotADate
   Ok (3600 * hour + 60 * minute + second)
 

@@ -1,5 +1,7 @@
 -- Numbers: how one is spelt, and what a sum's text is.
-use Rattle.std.specs.Prelude.{ℕ, zero, suc, ◌+◌, ◌-◌, ◌*◌, ◌/◌, ◌%◌, ◌^◌, ◌==◌, nat_lt, nat_le, if◌then◌else◌, List, [], ◌∷◌, ◌++◌, length, drop, fold, slice_index, take_while, Result, Ok, Err, ℤ, pos, negsuc, neg_ℤ}
+use Rattle.std.specs.Prelude.{ℕ, zero, suc, ◌+◌, ◌-◌, ◌*◌, ◌/◌, ◌%◌, ◌^◌, ◌==◌, nat_lt, nat_le}
+use Rattle.std.specs.Prelude.{if◌then◌else◌, List, [], ◌∷◌, ◌++◌, length, drop, fold, slice_index}
+use Rattle.std.specs.Prelude.{take_while, Result, Ok, Err, ℤ, pos, negsuc, neg_ℤ}
 use Rattle.std.specs.Char.{is_ascii_digit}
 use Rattle.reg_base.specs.declared.num.Num.{Num}
 use Rattle.reg_base.specs.declared.num.NumFault.{NumFault}

@@ -1,5 +1,6 @@
 -- Points: a date and a document number, their order, spelling and text.
-use Rattle.std.specs.Prelude.{ℕ, Bool, ◌^◌, ◌<◌, ◌==◌, ◌&&◌, not, nat_lt, List, ◌++◌, ◌∷◌, drop, take, length, slice_index, Result, Ok}
+use Rattle.std.specs.Prelude.{ℕ, Bool, ◌^◌, ◌<◌, ◌==◌, ◌&&◌, not, nat_lt, List, ◌++◌, ◌∷◌, drop}
+use Rattle.std.specs.Prelude.{take, length, slice_index, Result, Ok}
 use Rattle.std.specs.List.{list_all}
 use Rattle.std.specs.Char.{is_ascii_digit}
 use Rattle.std.specs.Ordering.{nat_cmp, ordering_then}

@@ -1,5 +1,7 @@
 -- Records of registers: their points, which of them count, and which are asked for.
-use Rattle.std.specs.Prelude.{ℕ, ℤ, pos, neg_ℤ, Bool, true, false, ◌&&◌, Option, Some, None, is_none, unwrap_or, if◌then◌else◌, List, [], ◌∷◌, map, filter, slice_get}
+use Rattle.std.specs.Prelude.{ℕ, ℤ, pos, neg_ℤ, Bool, true, false, ◌&&◌, Option, Some, None}
+use Rattle.std.specs.Prelude.{is_none, unwrap_or, if◌then◌else◌, List, [], ◌∷◌, map, filter}
+use Rattle.std.specs.Prelude.{slice_get}
 use Rattle.std.specs.List.{list_any, flat_map}
 use Rattle.std.specs.Ordering.{nat_cmp, ordering_then, match_ordering, is_eq}
 use Rattle.std.specs.Cmp.Lexicographic.{slice_cmp}
@@ -44,14 +46,14 @@ abbrev pub booked_cmp : Booked → Booked → Ordering
 booked_cmp a b = ordering_then (point_cmp (point_of a) (point_of b)) (nat_cmp a.rec.line b.rec.line)
 
 -- an expense counts with the opposite number, a receipt or a turn as it stands
-abbrev pub signed : Mark → ℤ → ℤ
-signed Receipt n = n
-signed Turn n = n
-signed Expense n = neg_ℤ n
+abbrev pub signed_amount : Mark → ℤ → ℤ
+signed_amount Receipt n = n
+signed_amount Turn n = n
+signed_amount Expense n = neg_ℤ n
 
 -- the signed amount of a record at a resource
 abbrev pub amount_at : ℕ → Rec → ℤ
-amount_at resource rec = signed rec.mark (unwrap_or (slice_get rec.sums resource) (pos 0))
+amount_at resource rec = signed_amount rec.mark (unwrap_or (slice_get rec.sums resource) (pos 0))
 
 -- a list with one element more, before the first that is not below it
 abbrev pub put : {X : Type 0} → (X → X → Ordering) → X → List X → List X
@@ -78,7 +80,8 @@ is_posted Marked = false
 abbrev pub booked_by : ℕ → Document → List Booked
 booked_by register d =
     if is_posted d.doc.state && d.doc.active
-    then map (λ r. record { recorder = d.doc.number; rec = r }) (unwrap_or (slice_get d.sets.registers register) [])
+    then map (λ r. record { recorder = d.doc.number; rec = r })
+    (unwrap_or (slice_get d.sets.registers register) [])
     else []
 
 -- the records of a register in all documents, in order of point, then line
@@ -101,9 +104,9 @@ abbrev pub matches : Filter → List Value → Bool
 matches asked values = passes_each asked.lists values
 
 -- the records that are asked for
-abbrev pub chosen : Filter → List Booked → List Booked
-chosen asked records = filter (λ b. matches asked b.rec.values) records
+abbrev pub chosen_records : Filter → List Booked → List Booked
+chosen_records asked records = filter (λ b. matches asked b.rec.values) records
 
 -- the records whose points lie inside the cut
-abbrev pub within : Cut → List Booked → List Booked
-within cut records = filter (λ b. inside cut (point_of b)) records
+abbrev pub records_within : Cut → List Booked → List Booked
+records_within cut records = filter (λ b. inside cut (point_of b)) records

@@ -1,5 +1,6 @@
 -- Readers that answer a value or the first fault, for any type of faults.
-use Rattle.std.specs.Prelude.{◌≡◌, ◌≢◌, Bool, true, false, Option, Some, None, Result, Ok, Err}
+use Rattle.std.specs.Prelude.{◌≡◌, ◌≢◌, Bool, true, false, Option, Some, None, List, [], ◌∷◌}
+use Rattle.std.specs.Prelude.{Result, Ok, Err}
 
 infixl 10 ◌>>=◌
 -- what comes next reads on from a value; a fault stays
@@ -21,6 +22,16 @@ some_or None fault = Err fault
 abbrev pub none_or : {F : Type 0} → Option F → Result (Unit {0}) F
 none_or (Some fault) = Err fault
 none_or None = Ok tt
+
+-- what is read of each element, or the first fault
+abbrev pub each : {F A X : Type 0} → (A → Result X F) → List A → Result (List X) F
+each read [] = Ok []
+each read (x ∷ xs) = read x >>= λ y. each read xs >>= λ ys. Ok (y ∷ ys)
+
+-- goes on where each element can be read, and else answers the first fault
+abbrev pub check_each : {F A X : Type 0} → (A → Result X F) → List A → Result (Unit {0}) F
+check_each read [] = Ok tt
+check_each read (x ∷ xs) = read x >>= λ _. check_each read xs
 
 -- the call gives what the definition gives, seen by `view`; want of memory alone is free
 abbrev pub GivesAs : {F X Y : Type 0} → F → (X → Y) → Result X F → Result Y F → Type 0

@@ -6,8 +6,8 @@ use Rattle.std.proofs.lemmas.List.{length-take-le, take-append-drop}
 use Rattle.reg_base.specs.declared.short_text.ShortText.TheInside.{Inside}
 
 -- the bytes up to the length
-abbrev pub bytes_of : Inside → List ℕ
-bytes_of a = take a.len a.bytes
+abbrev pub short_text_bytes : Inside → List ℕ
+short_text_bytes a = take a.len a.bytes
 
 -- there is room for 32 bytes, those behind the length are zeros, and all are ASCII
 pub record IsShortText (a : Inside) : Type 0 where
@@ -29,8 +29,10 @@ kept-same : (a b : List ℕ) (m n : ℕ) → a ≡ b → m ≡ n → kept a m �
 kept-same a b m n p q = ap (λ x. kept x m) p ∙ ap (kept b) q
 
 -- the bytes give back what was kept
-pub inside_of-bytes_of : (a : Inside) → IsShortText a → inside_of (bytes_of a) ≡ a
-inside_of-bytes_of a h =
+pub inside_of-short_text_bytes : (a : Inside) → IsShortText a → inside_of (short_text_bytes a) ≡ a
+inside_of-short_text_bytes a h =
     let same_len = length-take-le a.len a.bytes (omega (arith, h.room, h.fits)) in
-    let back : replicate (32 - length (take a.len a.bytes)) 0 ≡ drop a.len a.bytes = rw same_len (sym h.blank) in
-    kept-same _ _ _ _ (ap (λ x. take a.len a.bytes ++ x) back ∙ take-append-drop a.len a.bytes) same_len
+    let back : replicate (32 - length (take a.len a.bytes)) 0 ≡ drop a.len a.bytes =
+    rw same_len (sym h.blank) in
+    kept-same _ _ _ _
+    (ap (λ x. take a.len a.bytes ++ x) back ∙ take-append-drop a.len a.bytes) same_len

@@ -1,18 +1,14 @@
 //! Codes of items, accounts, warehouses and documents.
-ghost use Rattle.std.specs.Prelude.{◌≡◌, true, if◌then◌else◌, nat_eq, refl, Some, None};
+ghost use Rattle.std.specs.Prelude.{◌≡◌, true, if◌then◌else◌, Some, None};
 ghost use Rattle.std.specs.List.{list_all};
-ghost use Rattle.std.specs.Ordering.{nat_cmp};
-ghost use Rattle.std.specs.Cmp.Lexicographic.{pointwise, slice_cmp, nat_list_eq_equiv, nat_list_cmp_total, texts_ties, texts_po};
-ghost use Rattle.std.specs.Cmp.{partial_equiv_from_equiv};
 ghost use Rattle.reg_base.specs.Codes.{is_code, is_code_byte as is_code_byte_of};
 
 use crate::short_text::{ROOM, ShortText};
-use std::cmp::Ordering;
 use std::fmt;
 use std::marker::Model;
 
 /// 1 to 32 ASCII letters, digits, `_`, `.` and `-`, seen as its bytes and ordered by them.
-#[derive(Clone, Copy)]
+#[derive(Clone, Copy, PartialEq, Eq, PartialOrd, Ord)]
 pub struct Code {
     text: ShortText,
 }
@@ -77,48 +73,11 @@ fn are_code_bytes(text: &[u8]) -> bool
     text.iter().all(|b| is_code_byte(*b))
 }
 
-fn is_code_byte(b: u8) -> bool
+/// Whether a code may have this byte.
+pub fn is_code_byte(b: u8) -> bool
     ensures { result ≡ is_code_byte_of b }
 {
     b.is_ascii_alphanumeric() || b == b'_' || b == b'.' || b == b'-'
-}
-
-impl PartialEq for Code {
-    ghost eq = { pointwise nat_eq };
-
-    ghost laws = { partial_equiv_from_equiv nat_list_eq_equiv };
-
-    fn eq(&self, other: &Code) -> bool {
-        self.as_bytes() == other.as_bytes()
-    }
-}
-
-impl Eq for Code {
-    ghost laws = { nat_list_eq_equiv };
-}
-
-impl PartialOrd for Code {
-    ghost partial_cmp = { λ x y. Some (slice_cmp nat_cmp x y) };
-
-    ghost laws = { texts_po };
-
-    fn partial_cmp(&self, other: &Code) -> Option<Ordering> {
-        Some(self.cmp(other))
-    }
-}
-
-impl Ord for Code {
-    ghost cmp = { slice_cmp nat_cmp };
-
-    ghost total = { nat_list_cmp_total };
-
-    ghost matches_partial_cmp = { λ x y. refl };
-
-    ghost matches_eq = { texts_ties };
-
-    fn cmp(&self, other: &Code) -> Ordering {
-        self.as_bytes().cmp(other.as_bytes())
-    }
 }
 
 impl fmt::Display for Code {

@@ -2,7 +2,8 @@
 ghost use Rattle.std.specs.Prelude.{◌≡◌, ◌++◌, IfOk, string_bytes};
 ghost use Rattle.reg_base.specs.Dates.{date_text};
 ghost use Rattle.reg_base.specs.Points.{point_text};
-ghost use Rattle.reg_base.specs.Cuts.{inside, has_byte, parse_cut, cut_alone, cut_by_word, cut_before, cut_through, cut_text};
+ghost use Rattle.reg_base.specs.Cuts.{inside, has_byte, parse_cut, cut_alone, cut_by_word};
+ghost use Rattle.reg_base.specs.Cuts.{cut_before, cut_through, cut_text};
 
 use crate::{Date, DateFault, Memory, Point};
 use std::alloc::Global;

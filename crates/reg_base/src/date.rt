@@ -1,5 +1,6 @@
 //! Dates to the second, from 2000 to 2099: how they are read and printed.
-ghost use Rattle.std.specs.Prelude.{◌≡◌, ◌++◌, ◌<◌, ◌≤◌, SomeIff, IfOk, OnOk, OnErr, IsTrue, string_bytes, length};
+ghost use Rattle.std.specs.Prelude.{◌≡◌, ◌++◌, ◌<◌, ◌≤◌, SomeIff, IfOk, OnOk, OnErr, IsTrue};
+ghost use Rattle.std.specs.Prelude.{string_bytes, length};
 ghost use Rattle.reg_base.specs.Dates.{date_of, day_of, parse_long_date, parse_date, date_text};
 
 use crate::Memory;
@@ -10,7 +11,7 @@ use std::marker::Model;
 /// How many seconds the years 2000 to 2099 have.
 pub const CENTURY_SECONDS: u32 = 3_155_760_000;
 
-/// The first day of 2000, counted as the calendar counts, from -9999-01-01.
+// The first day of 2000, counted as the calendar counts, from -9999-01-01.
 const FIRST_DAY: u32 = 4_382_544;
 
 /// A second of the years 2000 to 2099, seen as the seconds since 2000-01-01T00:00:00.
@@ -77,6 +78,7 @@ impl Date {
         ensures ok { OnOk result (out.new.items ≡ out.old.items ++ date_text self) }
         ensures err { OnErr result (out.new.items ≡ out.old.items) }
     {
+        // The text is made first: where memory is refused, nothing is appended.
         let text = self.to_text(alloc)?;
         out.extend_from_slice(text.as_bytes())?;
         Ok(())
@@ -94,7 +96,7 @@ impl Date {
     }
 }
 
-/// Reads `YYYY-MM-DDThh:mm:ss`.
+// Reads `YYYY-MM-DDThh:mm:ss`.
 #[tactic(auto, unfolding(crate::specs::Dates::parse_long_date))]
 pub(crate) fn parse_long_date(text: &[u8]) -> Result<Date, DateFault>
     ensures { result ≡ parse_long_date text.now }
@@ -107,7 +109,7 @@ pub(crate) fn parse_long_date(text: &[u8]) -> Result<Date, DateFault>
     date_of(day, second)
 }
 
-/// The date of a second of a day, where the calendar has the day.
+// The date of a second of a day, where the calendar has the day.
 #[tactic(auto, unfolding(crate::specs::Dates::date_of))]
 fn date_of(day: Day, second: u32) -> Result<Date, DateFault>
     requires year { day.year < 10000 }
@@ -116,6 +118,7 @@ fn date_of(day: Day, second: u32) -> Result<Date, DateFault>
     requires second { second < 86400 }
     ensures { result ≡ date_of day second }
 {
+    // The calendar comes first: 30 February is no date in any year.
     let number = day_number(day).ok_or(DateFault::NotADate)?;
     if day.year < 2000 || day.year > 2099 {
         return Err(DateFault::OutOfYears);
@@ -126,7 +129,7 @@ fn date_of(day: Day, second: u32) -> Result<Date, DateFault>
     })
 }
 
-/// The day of the calendar that the date lies in.
+// The day of the calendar that the date lies in.
 fn day_of(date: Date) -> Day
     ensures { result ≡ day_of date }
 {

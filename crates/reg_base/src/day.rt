@@ -1,7 +1,9 @@
 //! Days of the calendar, as dates are spelt and printed.
-ghost use Rattle.std.specs.Prelude.{◌≡◌, ◌+◌, ◌-◌, ◌<◌, ◌≤◌, ◌^◌, ◌++◌, length, string_bytes, IfOk, OnOk, IfNone, IfSome, true, false};
+ghost use Rattle.std.specs.Prelude.{◌≡◌, ◌+◌, ◌-◌, ◌<◌, ◌≤◌, ◌^◌, ◌++◌, length, string_bytes, IfOk};
+ghost use Rattle.std.specs.Prelude.{OnOk, IfNone, IfSome, true, false};
 ghost use Rattle.reg_base.specs.Days.{IsDayNumber, IsInCentury};
-ghost use Rattle.reg_base.specs.Dates.{has_day, number_at, day_spelt, second_spelt, day_text, second_text};
+ghost use Rattle.reg_base.specs.Dates.{has_day, number_between, day_spelt, second_spelt, day_text};
+ghost use Rattle.reg_base.specs.Dates.{second_text};
 
 use crate::DateFault;
 use crate::sums::push_digits;
@@ -16,13 +18,13 @@ pub struct Day {
     pub day: u8,
 }
 
-/// The number that the digits from one place to another spell, which are four at most.
-#[tactic(auto, unfolding(crate::specs::Dates::number_at))]
-fn number_at(text: &[u8], from: usize, to: usize) -> Result<u16, DateFault>
+// The number that the digits from one place to another spell, which are four at most.
+#[tactic(auto, unfolding(crate::specs::Dates::number_between))]
+fn number_between(text: &[u8], from: usize, to: usize) -> Result<u16, DateFault>
     requires ordered { from ≤ to }
     requires within { to ≤ length text.now }
     requires few { to ≤ from + 4 }
-    ensures value { result ≡ number_at text.now from to }
+    ensures value { result ≡ number_between text.now from to }
     ensures range { IfOk result (λ n. n < 10 ^ (to - from)) }
 {
     let digits = &text[from..to];
@@ -48,9 +50,9 @@ pub fn day_spelt(text: &[u8]) -> Result<Day, DateFault>
     if text[4] != b'-' || text[7] != b'-' {
         return Err(DateFault::NotADate);
     }
-    let year = number_at(text, 0, 4)?;
-    let month = number_at(text, 5, 7)? as u8;
-    let day = number_at(text, 8, 10)? as u8;
+    let year = number_between(text, 0, 4)?;
+    let month = number_between(text, 5, 7)? as u8;
+    let day = number_between(text, 8, 10)? as u8;
     Ok(Day { year, month, day })
 }
 
@@ -64,9 +66,9 @@ pub fn second_spelt(text: &[u8]) -> Result<u32, DateFault>
     if text[10] != b'T' || text[13] != b':' || text[16] != b':' {
         return Err(DateFault::NotADate);
     }
-    let hour = number_at(text, 11, 13)?;
-    let minute = number_at(text, 14, 16)?;
-    let second = number_at(text, 17, 19)?;
+    let hour = number_between(text, 11, 13)?;
+    let minute = number_between(text, 14, 16)?;
+    let second = number_between(text, 17, 19)?;
     if hour >= 24 || minute >= 60 || second >= 60 {
         return Err(DateFault::NotADate);
     }

@@ -7,8 +7,9 @@
 //!
 //! Stands on: `jiff_core` for the calendar.
 //!
-//! Promises: each `parse` accepts exactly its spelling and names the first fault; orders are
-//! total; what is printed is exactly the text that `specs/` gives.
+//! Promises: each `parse` accepts exactly its spelling and names the first fault; what is printed
+//! is exactly the text that `specs/` gives, and reads back; orders are total and tell all apart; a
+//! balance does not depend on the order of the records.
 //!
 //! Leaves open: how much memory a text takes, and when memory is refused.
 #![tactic(auto)]
@@ -19,10 +20,12 @@ mod cut;
 mod date;
 mod day;
 mod fault;
+mod line;
 mod list;
 mod memory;
 mod name;
 mod num;
+mod order_laws;
 mod point;
 mod read_back;
 mod records;
@@ -32,19 +35,23 @@ mod sums;
 mod text;
 mod value;
 
-pub use code::Code;
+pub use code::{Code, is_code_byte};
 pub use comment::Comment;
 pub use cut::{Cut, inside};
 pub use date::{Date, DateFault};
 pub use fault::{EntryFault, PostFault};
+pub use line::Line;
 pub use list::List;
 pub use memory::Memory;
 pub use name::Name;
-pub use num::{Num, NumFault};
+pub use num::{LARGEST_UNITS, Num, NumFault, digit_count, power_of_ten, read_on};
+pub use order_laws::{
+    balances_take_records_in_any_order, equal_values_are_the_same, orders_are_exact,
+    orders_are_total, values_stand_in_order,
+};
 pub use point::Point;
 pub use read_back::{
-    cuts_read_back, dates_read_back, numbers_read_back, points_read_back, values_stand_in_order,
-    what_is_read_is_in_range,
+    cuts_read_back, dates_read_back, numbers_read_back, points_read_back, what_is_read_is_in_range,
 };
 pub use records::{
     Doc, DocRow, DocState, Document, Filter, Found, Item, Mark, Mode, Posting, Rec, Sets, Side,
@@ -52,5 +59,5 @@ pub use records::{
 };
 pub use scale::Scale;
 pub use sums::{print_sum, sum_string};
-pub use text::Text;
+pub use text::{Text, join_texts, string_of};
 pub use value::{Cell, Value};

@@ -1,13 +1,9 @@
 //! Names of registers, ledgers, document types, fields and clerks.
-ghost use Rattle.std.specs.Prelude.{◌≡◌, true, if◌then◌else◌, nat_eq, refl, Some, None};
+ghost use Rattle.std.specs.Prelude.{◌≡◌, true, if◌then◌else◌, Some, None};
 ghost use Rattle.std.specs.List.{list_all};
-ghost use Rattle.std.specs.Ordering.{nat_cmp};
-ghost use Rattle.std.specs.Cmp.Lexicographic.{pointwise, slice_cmp, nat_list_eq_equiv, nat_list_cmp_total, texts_ties, texts_po};
-ghost use Rattle.std.specs.Cmp.{partial_equiv_from_equiv};
 ghost use Rattle.reg_base.specs.Codes.{is_name, is_name_byte as is_name_byte_of};
 
 use crate::short_text::ShortText;
-use std::cmp::Ordering;
 use std::fmt;
 use std::marker::Model;
 
@@ -15,7 +11,7 @@ use std::marker::Model;
 pub const LONGEST_NAME: usize = 24;
 
 /// A lower-case letter, then up to 23 lower-case letters, digits and `_`; seen as its bytes.
-#[derive(Clone, Copy)]
+#[derive(Clone, Copy, PartialEq, Eq, PartialOrd, Ord)]
 pub struct Name {
     text: ShortText,
 }
@@ -86,44 +82,6 @@ fn is_name_byte(b: u8) -> bool
     ensures { result ≡ is_name_byte_of b }
 {
     b.is_ascii_lowercase() || b.is_ascii_digit() || b == b'_'
-}
-
-impl PartialEq for Name {
-    ghost eq = { pointwise nat_eq };
-
-    ghost laws = { partial_equiv_from_equiv nat_list_eq_equiv };
-
-    fn eq(&self, other: &Name) -> bool {
-        self.as_bytes() == other.as_bytes()
-    }
-}
-
-impl Eq for Name {
-    ghost laws = { nat_list_eq_equiv };
-}
-
-impl PartialOrd for Name {
-    ghost partial_cmp = { λ x y. Some (slice_cmp nat_cmp x y) };
-
-    ghost laws = { texts_po };
-
-    fn partial_cmp(&self, other: &Name) -> Option<Ordering> {
-        Some(self.cmp(other))
-    }
-}
-
-impl Ord for Name {
-    ghost cmp = { slice_cmp nat_cmp };
-
-    ghost total = { nat_list_cmp_total };
-
-    ghost matches_partial_cmp = { λ x y. refl };
-
-    ghost matches_eq = { texts_ties };
-
-    fn cmp(&self, other: &Name) -> Ordering {
-        self.as_bytes().cmp(other.as_bytes())
-    }
 }
 
 impl fmt::Display for Name {

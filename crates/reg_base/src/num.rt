@@ -1,8 +1,11 @@
 //! Numbers: whole counts of units at a scale, and how they are read.
-ghost use Rattle.std.specs.Prelude.{◌≡◌, ◌+◌, ◌-◌, ◌*◌, ◌++◌, ◌<◌, ◌≤◌, ◌^◌, ◌==◌, min, if◌then◌else◌, length, MatchResult, IfOk, Ok, Err};
+ghost use Rattle.std.specs.Prelude.{◌≡◌, ◌+◌, ◌-◌, ◌*◌, ◌++◌, ◌<◌, ◌≤◌, ◌^◌, ◌==◌, min};
+ghost use Rattle.std.specs.Prelude.{if◌then◌else◌, length, MatchResult, IfOk, Ok, Err};
 ghost use Rattle.std.specs.List.{prefix_len};
 ghost use Rattle.std.specs.Char.{is_ascii_digit};
-ghost use Rattle.reg_base.specs.Numbers.{decimal_value, read_on, sign_len, digits_from, last_digits_from, decimals_from, units_of, num_of, parse_num};
+ghost use Rattle.reg_base.specs.Numbers.{decimal_value, read_on, sign_len, digits_from};
+ghost use Rattle.reg_base.specs.Numbers.{last_digits_from, decimals_from, units_of, num_of};
+ghost use Rattle.reg_base.specs.Numbers.{parse_num};
 
 /// The largest number either side of zero, in units.
 pub const LARGEST_UNITS: u64 = 999_999_999_999_999;
@@ -52,7 +55,8 @@ fn sign_len(text: &[u8]) -> usize
     }
 }
 
-fn digit_count(text: &[u8]) -> usize
+/// How many digits the bytes begin with.
+pub fn digit_count(text: &[u8]) -> usize
     ensures value { result ≡ prefix_len is_ascii_digit text.now }
     ensures within { result ≤ length text.now }
 {
@@ -104,10 +108,13 @@ fn decimals_from(text: &[u8], place: usize) -> Result<&[u8], NumFault>
     }
 }
 
-/// What the digits spell behind those of `start`, or the largest `u64` where that is less.
-pub(crate) fn read_on(start: u64, digits: &[u8]) -> u64
+/// The number that the digits spell behind those of `start`, or the largest `u64` where that is
+/// less.
+pub fn read_on(start: u64, digits: &[u8]) -> u64
     ensures { result ≡ min (read_on start digits.now) (2 ^ 64 - 1) }
 {
+    // Saturating: a text may have any number of digits, and what passes the largest `u64` passes
+    // every limit that callers ask for.
     let mut value = start;
     for digit in digits {
         let unit = u64::from(digit.saturating_sub(b'0'));
@@ -116,7 +123,7 @@ pub(crate) fn read_on(start: u64, digits: &[u8]) -> u64
     value
 }
 
-/// The units of the digits with so many zeros behind them, or the largest `u64` where less.
+// The units of the digits with so many zeros behind them, or the largest `u64` where less.
 fn capped_units(whole: &[u8], decimals: &[u8], zeros: u8) -> u64
     requires { zeros ≤ 6 }
     ensures { result ≡ min (decimal_value (whole.now ++ decimals.now) * 10 ^ zeros) (2 ^ 64 - 1) }
@@ -131,6 +138,8 @@ fn units_of(whole: &[u8], decimals: &[u8], scale: u8) -> Result<u64, NumFault>
     ensures value { result ≡ units_of whole.now decimals.now scale }
     ensures range { IfOk result (λ units. units ≤ 999_999_999_999_999) }
 {
+    // The count of decimals is asked first: a number with too many is refused for them, whatever
+    // its size.
     if decimals.len() > scale as usize {
         return Err(NumFault::TooManyDecimals);
     }
@@ -145,6 +154,7 @@ fn num_of(sign: usize, units: u64) -> Num
     requires { units ≤ 999_999_999_999_999 }
     ensures { result ≡ num_of sign units }
 {
+    // 0 has one form: behind a minus sign it is 0 too.
     let units = units as i64;
     Num {
         units: if sign == 1 { -units } else { units },
@@ -152,7 +162,7 @@ fn num_of(sign: usize, units: u64) -> Num
 }
 
 /// Ten to a power of at most six.
-pub(crate) fn power_of_ten(exponent: u8) -> u64
+pub fn power_of_ten(exponent: u8) -> u64
     requires { exponent ≤ 6 }
     ensures value { result ≡ 10 ^ exponent }
     ensures positive { 0 < result }
@@ -164,6 +174,7 @@ pub(crate) fn power_of_ten(exponent: u8) -> u64
         3 => 1_000,
         4 => 10_000,
         5 => 100_000,
+        // No other exponent is left than 6.
         _ => 1_000_000,
     }
 }

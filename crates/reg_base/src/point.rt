@@ -2,7 +2,8 @@
 ghost use Rattle.std.specs.Prelude.{◌≡◌, ◌++◌, IfOk, OnOk, OnErr, string_bytes};
 ghost use Rattle.std.specs.List.{list_all};
 ghost use Rattle.std.specs.Char.{is_ascii_digit};
-ghost use Rattle.reg_base.specs.Points.{has_leading_zero, is_whole_number, doc_number, parse_point, point_text};
+ghost use Rattle.reg_base.specs.Points.{has_leading_zero, is_whole_number, doc_number, parse_point};
+ghost use Rattle.reg_base.specs.Points.{point_text};
 
 use crate::Memory;
 use crate::date::{Date, DateFault, parse_long_date};
@@ -20,7 +21,7 @@ pub struct Point {
 
 impl Point {
     /// Reads a date in the long form, `#`, and a document number without leading zeros. A wrong
-    /// number is told before a year outside 2000 to 2099.
+    /// number is reported before a year outside 2000 to 2099.
     pub fn parse(text: &str) -> Result<Point, DateFault>
         ensures { result ≡ parse_point text.now }
     {
@@ -32,6 +33,7 @@ impl Point {
         ensures ok { OnOk result (out.new.items ≡ out.old.items ++ point_text self) }
         ensures err { OnErr result (out.new.items ≡ out.old.items) }
     {
+        // The text is made first: where memory is refused, nothing is appended.
         let text = self.to_text(alloc)?;
         out.extend_from_slice(text.as_bytes())?;
         Ok(())
@@ -55,6 +57,7 @@ pub(crate) fn parse_point(text: &[u8]) -> Result<Point, DateFault>
     let Some(b'#') = text.get(19) else {
         return Err(DateFault::NotADate);
     };
+    // The number is read before the date: a point that is misspelt is no point in any year.
     let doc = doc_number(&text[20..])?;
     let date = parse_long_date(&text[..19])?;
     Ok(Point { date, doc })

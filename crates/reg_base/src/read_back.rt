@@ -4,11 +4,8 @@ ghost use Rattle.reg_base.specs.Numbers.{largest_units, parse_num, sum_text};
 ghost use Rattle.reg_base.specs.Dates.{parse_date, date_text};
 ghost use Rattle.reg_base.specs.declared.point.Point.{Point};
 ghost use Rattle.reg_base.specs.declared.cut.Cut.{Cut};
-ghost use Rattle.reg_base.specs.Records.{value_cmp};
 ghost use Rattle.reg_base.specs.Points.{IsPoint, parse_point, point_text};
 ghost use Rattle.reg_base.specs.Cuts.{IsCut, parse_cut, cut_text};
-
-use crate::value::Value;
 
 /// A law: the text of a number at a scale spells the number.
 pub fn numbers_read_back()
@@ -31,15 +28,12 @@ pub fn cuts_read_back()
     ensures { (cut : Cut) → IsCut cut → parse_cut (cut_text cut) ≡ Ok cut }
 {}
 
-/// A law: what a text spells as a date lies in 2000 to 2099; what it spells as a point or a cut
-/// is one.
+/// A law: what a text spells as a number lies within the largest number, either side of zero; what
+/// it spells as a date lies in 2000 to 2099; what it spells as a point or a cut is one.
 pub fn what_is_read_is_in_range()
+    ensures numbers { (text : List ℕ) (scale : ℕ) →
+        IfOk (parse_num text scale) (λ n. unsigned_abs n.units ≤ largest_units) }
     ensures dates { (text : List ℕ) → IfOk (parse_date text) (λ d. d < 3_155_760_000) }
     ensures points { (text : List ℕ) → IfOk (parse_point text) IsPoint }
     ensures cuts { (text : List ℕ) → IfOk (parse_cut text) IsCut }
-{}
-
-/// A law: values stand in the order that their type derives: codes by bytes, then lots by points.
-pub fn values_stand_in_order()
-    ensures { (x y : Value) → ⟦<Value as Ord>⟧.cmp x y ≡ value_cmp x y }
 {}

@@ -8,7 +8,8 @@
 ghost use Rattle.std.specs.Prelude.{◌≡◌, ◌≤◌, false, length, nat_eq, refl, Some};
 ghost use Rattle.std.specs.Ordering.{nat_cmp};
 ghost use Rattle.std.specs.Str.{IsAscii};
-ghost use Rattle.std.specs.Cmp.Lexicographic.{pointwise, slice_cmp, nat_list_eq_equiv, nat_list_cmp_total, texts_ties, texts_po};
+ghost use Rattle.std.specs.Cmp.Lexicographic.{pointwise, slice_cmp, nat_list_eq_equiv};
+ghost use Rattle.std.specs.Cmp.Lexicographic.{nat_list_cmp_total, texts_ties, texts_po};
 ghost use Rattle.std.specs.Cmp.{partial_equiv_from_equiv};
 
 use std::cmp::Ordering;
@@ -33,15 +34,16 @@ impl Model for ShortText {
 
     ghost coded = { coded_list coded_ℕ };
 
-    ghost use Rattle.reg_base.specs.ShortTexts.{bytes_of, IsShortText, inside_of, inside_of-bytes_of};
+    ghost use Rattle.reg_base.specs.ShortTexts.{short_text_bytes, IsShortText, inside_of};
+    ghost use Rattle.reg_base.specs.ShortTexts.{inside_of-short_text_bytes};
 
-    ghost view = { bytes_of };
+    ghost view = { short_text_bytes };
 
     ghost invariant = { IsShortText };
 
     ghost inverse = { inside_of };
 
-    ghost inverse_ok = { inside_of-bytes_of };
+    ghost inverse_ok = { inside_of-short_text_bytes };
 }
 
 impl ShortText {
@@ -69,11 +71,14 @@ impl ShortText {
     pub fn as_str(&self) -> &str
         ensures { result.now ≡ self.now }
     {
+        // ASCII bytes are UTF-8, so that this cannot fail.
         let bytes = self.as_bytes();
         str::from_utf8(bytes).unwrap()
     }
 }
 
+// By hand, over the bytes up to the length: a derived order would compare what is kept, the zeros
+// and the length too.
 impl PartialEq for ShortText {
     ghost eq = { pointwise nat_eq };
 

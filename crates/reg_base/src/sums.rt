@@ -13,6 +13,7 @@ pub fn print_sum(alloc: Global, units: i128, scale: u8, out: &mut Vec<u8>) -> Re
     ensures ok { OnOk result (out.new.items ≡ out.old.items ++ sum_text units scale) }
     ensures err { OnErr result (out.new.items ≡ out.old.items) }
 {
+    // The text is made first: where memory is refused, nothing is appended.
     let text = sum_string(alloc, units, scale)?;
     out.extend_from_slice(text.as_bytes())?;
     Ok(())
@@ -41,7 +42,7 @@ fn units_string(alloc: Global, sign: &str, units: u128, scale: u8) -> Result<Str
     Ok(text)
 }
 
-/// The number without leading zeros, behind the text in front.
+// The number without leading zeros, behind the text in front.
 pub(crate) fn number_string(alloc: Global, front: &str, number: u128) -> Result<String, AllocError>
     ensures { IfOk result (λ text. string_bytes text ≡ front.now ++ number_text number) }
 {
@@ -49,7 +50,7 @@ pub(crate) fn number_string(alloc: Global, front: &str, number: u128) -> Result<
     Ok(text)
 }
 
-/// Appends the last `count` digits of the number, with zeros in front where it has fewer.
+// Appends the last `count` digits of the number, with zeros in front where it has fewer.
 pub(crate) fn push_digits(text: &mut String, count: u8, number: u128) -> Result<(), AllocError>
     requires { count ≤ 6 }
     ensures { OnOk result

@@ -1,6 +1,7 @@
 //! A text that contracts see as its bytes.
-ghost use Rattle.std.specs.Prelude.{◌≡◌, IfOk, string_bytes};
+ghost use Rattle.std.specs.Prelude.{◌≡◌, ◌++◌, IfOk, string_bytes};
 
+use crate::Memory;
 use std::alloc::{AllocError, Global};
 use std::marker::Model;
 
@@ -47,4 +48,18 @@ impl Text {
     {
         self.inner.as_str()
     }
+}
+
+/// A `String` with the bytes of a text.
+pub fn string_of(alloc: Global, text: &str) -> Result<String, Memory>
+    ensures { IfOk result (λ t. string_bytes t ≡ text.now) }
+{
+    Ok(String::from_str(alloc, text)?)
+}
+
+/// A `String` of two texts, the one behind the other.
+pub fn join_texts(alloc: Global, front: &str, text: &str) -> Result<String, Memory>
+    ensures { IfOk result (λ t. string_bytes t ≡ front.now ++ text.now) }
+{
+    Ok(format!(in alloc; "{front}{text}")?)
 }

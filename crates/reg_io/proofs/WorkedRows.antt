@@ -1,9 +1,10 @@
 -- Rows of the definitions, computed.
-use Rattle.std.proofs.Common.{◌≡◌, [], ◌∷◌, ◌++◌, refl, None, Some, Ok, Err}
+use Rattle.std.proofs.Common.{◌≡◌, [], ◌∷◌, ◌++◌, refl, None, Some, Ok, Err, true, false}
 use Rattle.std.specs.Prelude.{codes}
 use Rattle.reg_io.specs.Lines.{lines_of, whole_lines_of}
+use Rattle.reg_io.specs.FailingCalls.{fails_next, next_call}
 use Rattle.reg_io.specs.Files.{file_named, file_read}
-use Rattle.reg_io.specs.declared.line.Line.TheVariants.{Text}
+use Rattle.reg_base.specs.declared.line.Line.TheVariants.{Text}
 use Rattle.reg_io.specs.declared.shelf.ShelfFault.TheVariants.{Failed, TooLong as FileTooLong}
 
 -- `ab`, an empty line, `c` with a carriage return before its line feed, and `d` and a carriage
@@ -41,3 +42,10 @@ longer_than_the_limit = refl
 
 not_there : file_read None 2 ≡ Err Failed
 not_there = refl
+
+-- of the calls of an object whose second one is listed, the first is made and the second fails
+first_call_is_made : fails_next (record { numbers = 2 ∷ []; made = 0 }) ≡ false
+first_call_is_made = refl
+
+second_call_fails : fails_next (next_call (record { numbers = 2 ∷ []; made = 0 })) ≡ true
+second_call_fails = refl

@@ -1,5 +1,6 @@
 -- Counts of faults, and what a call of one side leaves on the other.
-use Rattle.std.specs.Prelude.{◌≡◌, ℕ, ◌+◌, ◌-◌, ◌^◌, ◌≤◌, min, List, length, take, OnErr, Option, Result}
+use Rattle.std.specs.Prelude.{◌≡◌, ℕ, ◌+◌, ◌-◌, ◌^◌, ◌<◌, ◌≤◌, min, List, length, take, OnErr}
+use Rattle.std.specs.Prelude.{Option, Result}
 use Rattle.std.specs.Io.KnownBytes.{Appends}
 
 -- the count rose by one at least, or stands at its type's end
@@ -16,6 +17,6 @@ pub record LeavesSide (bytes_before bytes_now : Option (List ℕ)) (before now :
   pub same : bytes_now ≡ bytes_before
   pub later : before ≤ now
 
--- known bytes grow by the first of these bytes, as many as there are
+-- known bytes grow by the first of these bytes, but not by all
 abbrev pub AppendsPrefix : Option (List ℕ) → Option (List ℕ) → List ℕ → Type 0
-AppendsPrefix old new bytes = (n : ℕ) × (n ≤ length bytes) × Appends old new (take n bytes)
+AppendsPrefix old new bytes = (n : ℕ) × (n < length bytes) × Appends old new (take n bytes)

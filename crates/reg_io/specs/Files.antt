@@ -1,5 +1,6 @@
 -- Files by name, and what reading one answers.
-use Rattle.std.specs.Prelude.{◌≡◌, ℕ, List, [], ◌∷◌, length, nat_le, bytes_eq, if◌then◌else◌, Option, None, Some, Result, Ok, Err, ⊤, Vec}
+use Rattle.std.specs.Prelude.{◌≡◌, ℕ, List, [], ◌∷◌, length, nat_le, bytes_eq, if◌then◌else◌}
+use Rattle.std.specs.Prelude.{Option, None, Some, Result, Ok, Err, ⊤, Vec}
 use Rattle.reg_io.specs.declared.shelf.ShelfFault.{ShelfFault}
 use Rattle.reg_io.specs.declared.shelf.ShelfFault.TheVariants.{Failed, TooLong, Memory}
 
@@ -16,8 +17,9 @@ file_read None most = Err Failed
 file_read (Some bytes) most = if nat_le (length bytes) most then Ok bytes else Err TooLong
 
 -- an answer is what reading the file gives, unless a call failed or memory was refused
-abbrev pub Reads : {A : Type 0} → Result (List ℕ) ShelfFault → Result (Vec ℕ A) ShelfFault → Type 0
-Reads read (Ok bytes) = read ≡ Ok bytes.items
-Reads read (Err TooLong) = read ≡ Err TooLong
-Reads read (Err Failed) = ⊤
-Reads read (Err Memory) = ⊤
+abbrev pub ReadsFile : {A : Type 0} → Result (List ℕ) ShelfFault → Result (Vec ℕ A) ShelfFault →
+    Type 0
+ReadsFile read (Ok bytes) = read ≡ Ok bytes.items
+ReadsFile read (Err TooLong) = read ≡ Err TooLong
+ReadsFile read (Err Failed) = ⊤
+ReadsFile read (Err Memory) = ⊤

@@ -1,7 +1,7 @@
 pub mod Counts
-pub mod Feeds
+pub mod LineReaders
+pub mod FailingCalls
 pub mod Files
-pub mod GivenLines
 pub mod LineStates
 pub mod Lines
 pub mod Sizes

@@ -1,7 +1,8 @@
 -- The lines of bytes: each line feed ends one, and a last line may lack it.
-use Rattle.std.specs.Prelude.{ℕ, ◌-◌, ◌==◌, Bool, true, false, List, [], ◌∷◌, ◌++◌, length, take, slice_index, map, filter, nat_le, if◌then◌else◌}
-use Rattle.reg_io.specs.declared.line.Line.{Line}
-use Rattle.reg_io.specs.declared.line.Line.TheVariants.{Text, TooLong}
+use Rattle.std.specs.Prelude.{ℕ, ◌-◌, ◌==◌, Bool, true, false, List, [], ◌∷◌, ◌++◌, length, take}
+use Rattle.std.specs.Prelude.{slice_index, map, filter, nat_le, if◌then◌else◌}
+use Rattle.reg_base.specs.declared.line.Line.{Line}
+use Rattle.reg_base.specs.declared.line.Line.TheVariants.{Text, TooLong}
 
 -- the bytes of a line that is told, at the most
 abbrev pub most_line_bytes : ℕ
@@ -20,8 +21,8 @@ pub record RawLine : Type 0 where
   pub ended : Bool
 
 -- the bytes that a line takes, its line feed among them
-abbrev pub bytes_of : RawLine → List ℕ
-bytes_of line = if line.ended then line.content ++ line_feed ∷ [] else line.content
+abbrev pub raw_bytes : RawLine → List ℕ
+raw_bytes line = if line.ended then line.content ++ line_feed ∷ [] else line.content
 
 -- a byte in front of lines is on the front of the first; in front of none it is a line without end
 abbrev pub onto : ℕ → List RawLine → List RawLine
@@ -44,14 +45,14 @@ without_return bytes =
     else bytes
 
 -- the text of a line: a carriage return goes with the line feed, and stays where there is none
-abbrev pub text_of : RawLine → List ℕ
-text_of line = if line.ended then without_return line.content else line.content
+abbrev pub raw_text : RawLine → List ℕ
+raw_text line = if line.ended then without_return line.content else line.content
 
 -- a line as it is told: its text, or its length where it is too long
 abbrev pub line_of : RawLine → Line
 line_of line =
     if nat_le (length line.content) most_line_bytes
-    then Text (text_of line)
+    then Text (raw_text line)
     else TooLong (length line.content)
 
 -- all lines of the bytes

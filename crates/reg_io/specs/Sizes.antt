@@ -2,5 +2,5 @@
 use Rattle.std.specs.Prelude.{ℕ, ◌≤◌, Option, IfSome}
 
 -- the place is not behind the end
-abbrev pub IsWithin : ℕ → Option ℕ → Type 0
-IsWithin place size = IfSome size (λ len. place ≤ len)
+abbrev pub LiesInDisk : ℕ → Option ℕ → Type 0
+LiesInDisk place size = IfSome size (λ len. place ≤ len)

@@ -1,8 +1,9 @@
 //! What a journal is kept on.
-ghost use Rattle.std.specs.Prelude.{◌≡◌, ◌+◌, ◌≤◌, ℕ, Option, None, IfOk, IfSome, OnOk, length, max};
+ghost use Rattle.std.specs.Prelude.{◌≡◌, ◌+◌, ◌≤◌, ℕ, Option, None, IfOk, IfSome, OnOk, length};
+ghost use Rattle.std.specs.Prelude.{max};
 ghost use Rattle.std.specs.Option.{option_map};
 ghost use Rattle.reg_io.specs.Counts.{HasCause};
-ghost use Rattle.reg_io.specs.Sizes.{IsWithin};
+ghost use Rattle.reg_io.specs.Sizes.{LiesInDisk};
 
 use crate::device::Failed;
 
@@ -26,14 +27,14 @@ pub trait Disk {
 
     /// Fills the room with the bytes from this place on.
     fn read(&mut self, place: u64, into: &mut [u8]) -> Result<(), Failed>
-        requires { IsWithin (place + length into.old) (size self.old) }
+        requires { LiesInDisk (place + length into.old) (size self.old) }
         ensures cause { HasCause (faults self.old) (faults self.new) result }
         ensures stays { size self.new ≡ size self.old }
         ensures same { borrow_name self.new ≡ borrow_name self.old };
 
     /// Puts the bytes at this place, over what is there and behind the end.
     fn write_at(&mut self, place: u64, bytes: &[u8]) -> Result<(), Failed>
-        requires { IsWithin place (size self.old) }
+        requires { LiesInDisk place (size self.old) }
         ensures grows { OnOk result (size self.new
             ≡ option_map (max (place + length bytes.now)) (size self.old)) }
         ensures cause { HasCause (faults self.old) (faults self.new) result }
@@ -41,7 +42,7 @@ pub trait Disk {
 
     /// Takes away all bytes from this length on.
     fn cut(&mut self, len: u64) -> Result<(), Failed>
-        requires { IsWithin len (size self.old) }
+        requires { LiesInDisk len (size self.old) }
         ensures shrinks { OnOk result (size self.new ≡ option_map (λ _. len) (size self.old)) }
         ensures cause { HasCause (faults self.old) (faults self.new) result }
         ensures same { borrow_name self.new ≡ borrow_name self.old };

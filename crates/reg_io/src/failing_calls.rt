@@ -1,6 +1,5 @@
 //! The calls of an object in memory that are to fail.
-ghost use Rattle.std.specs.Prelude.{◌≡◌, ◌+◌, ◌-◌, ◌^◌, ◌==◌, min};
-ghost use Rattle.std.specs.List.{list_any};
+ghost use Rattle.std.specs.Prelude.{◌≡◌};
 
 use reg_base::List;
 
@@ -12,6 +11,8 @@ pub struct FailingCalls {
 }
 
 impl FailingCalls {
+    ghost use Rattle.reg_io.specs.FailingCalls.{fails_next, next_call};
+
     pub fn new(numbers: List<u64>) -> FailingCalls
         ensures numbers { result.numbers ≡ numbers }
         ensures made { result.made ≡ 0 }
@@ -21,9 +22,8 @@ impl FailingCalls {
 
     /// Counts a call, and tells whether it is to fail.
     pub fn next_fails(&mut self) -> bool
-        ensures fails { result ≡ list_any (λ number. number == self.new.made) self.old.numbers }
-        ensures made { self.new.made ≡ min (self.old.made + 1) (2 ^ 64 - 1) }
-        ensures same { self.new.numbers ≡ self.old.numbers }
+        ensures fails { result ≡ fails_next self.old }
+        ensures next { self.new ≡ next_call self.old }
     {
         self.made = self.made.saturating_add(1);
         self.numbers.as_slice().contains(&self.made)

@@ -3,11 +3,11 @@ ghost use Rattle.std.specs.Prelude.{◌≡◌, ◌≤◌, [], false, None, IfOk,
 ghost use Rattle.reg_io.specs.Counts.{LeavesSide};
 ghost use Rattle.reg_io.specs.LineStates.{NextLine, lasting_fault, lasting_of};
 
-use crate::feed::Feed;
-use crate::line::{Line, LineFault};
+use crate::line::LineFault;
+use crate::line_reader::LineReader;
 use crate::source::Source;
 use crate::window::Window;
-use reg_base::Memory;
+use reg_base::{Line, Memory};
 use std::alloc::Global;
 use std::marker::Model;
 
@@ -15,7 +15,7 @@ use std::marker::Model;
 #[derive(Drop)]
 pub struct Lines<S: Source> {
     alloc: Global,
-    feed: Feed<S>,
+    reader: LineReader<S>,
     fault: Option<LineFault>,
 }
 
@@ -27,14 +27,14 @@ impl<S: Source> Model for Lines<S> {
     ghost Value = { LinesState S };
 
     ghost view = { λ l. record {
-      source = l.feed.source;
-      pending = l.feed.window;
-      room = l.feed.room;
-      ended = l.feed.ended;
+      source = l.reader.source;
+      pending = l.reader.window;
+      room = l.reader.room;
+      ended = l.reader.ended;
       fault = l.fault;
     } };
 
-    ghost invariant = { λ l. l.feed.ended ≡ true → IsAtEnd (S.left l.feed.source) };
+    ghost invariant = { λ l. l.reader.ended ≡ true → IsAtEnd (S.left l.reader.source) };
 }
 
 impl<S: Source + Drop> Lines<S> {
@@ -49,7 +49,7 @@ impl<S: Source + Drop> Lines<S> {
         }) }
     {
         let window = Window::new(alloc)?;
-        let feed = Feed {
+        let reader = LineReader {
             source,
             window,
             room: most,
@@ -57,7 +57,7 @@ impl<S: Source + Drop> Lines<S> {
         };
         Ok(Lines {
             alloc,
-            feed,
+            reader,
             fault: None,
         })
     }
@@ -83,7 +83,7 @@ impl<S: Source> Lines<S> {
         if let Some(fault) = self.fault {
             return Err(fault);
         }
-        match self.feed.next_line(self.alloc) {
+        match self.reader.next_line(self.alloc) {
             Ok(line) => Ok(line),
             Err(fault) => {
                 self.fault = lasting(fault);
@@ -98,10 +98,10 @@ impl<S: Source> Lines<S> {
     {
         let Lines {
             alloc: _,
-            feed,
+            reader,
             fault: _,
         } = self;
-        feed.into_source()
+        reader.into_source()
     }
 }
 

@@ -1,5 +1,9 @@
 //! Sinks in memory: one that fails only where it can't grow, and one whose calls fail by a list.
-ghost use Rattle.std.specs.Prelude.{◌≡◌, ◌<◌, [], Some};
+ghost use Rattle.std.specs.Prelude.{◌≡◌, ◌<◌, [], true, Some, Ok, IsErr, length};
+ghost use Rattle.std.specs.Io.{WritesAtMost};
+ghost use Rattle.std.specs.Io.KnownBytes.{WriteAppends};
+ghost use Rattle.reg_io.specs.Counts.{HasCause};
+ghost use Rattle.reg_io.specs.FailingCalls.{fails_next, next_call};
 
 use crate::device::{Device, Failed};
 use crate::failing_calls::FailingCalls;
@@ -36,7 +40,13 @@ impl Device for MemorySink {
 }
 
 impl Sink for MemorySink {
-    fn write(&mut self, bytes: &[u8]) -> Result<usize, Failed> {
+    fn write(&mut self, bytes: &[u8]) -> Result<usize, Failed>
+        ensures bound { WritesAtMost result bytes.now }
+        ensures bytes { WriteAppends (Some self.old.bytes.items) (Some self.new.bytes.items)
+            result bytes.now }
+        ensures some { result ≡ Ok 0 → 0 < length bytes.now → ⊥ }
+        ensures cause { HasCause self.old.faults self.new.faults result }
+    {
         let count = bytes.len().min(self.most);
         if self.bytes.extend_from_slice(&bytes[..count]).is_err() {
             self.faults = self.faults.saturating_add(1);
@@ -69,7 +79,17 @@ impl Device for FailingSink {
 }
 
 impl Sink for FailingSink {
-    fn write(&mut self, bytes: &[u8]) -> Result<usize, Failed> {
+    fn write(&mut self, bytes: &[u8]) -> Result<usize, Failed>
+        ensures bound { WritesAtMost result bytes.now }
+        ensures bytes { WriteAppends (Some self.old.sink.bytes.items)
+            (Some self.new.sink.bytes.items) result bytes.now }
+        ensures some { result ≡ Ok 0 → 0 < length bytes.now → ⊥ }
+
+        // It fails at the calls that are listed, and at others only where memory is refused.
+        ensures listed { fails_next self.old.failing ≡ true → IsErr result }
+        ensures next { self.new.failing ≡ next_call self.old.failing }
+        ensures cause { HasCause self.old.sink.faults self.new.sink.faults result }
+    {
         if self.failing.next_fails() {
             self.sink.faults = self.sink.faults.saturating_add(1);
             return Err(Failed);

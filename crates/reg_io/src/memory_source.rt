@@ -1,5 +1,9 @@
 //! Sources in memory: one that never fails, and one whose calls fail by a list.
-ghost use Rattle.std.specs.Prelude.{◌≡◌, ◌<◌, ◌≤◌, [], Some, drop, length, take};
+ghost use Rattle.std.specs.Prelude.{◌≡◌, ◌<◌, ◌≤◌, [], Some, OnOk, drop, is_err, length, take};
+ghost use Rattle.std.specs.Io.{ReadsAtMost};
+ghost use Rattle.std.specs.Io.KnownBytes.{ReadConsumes};
+ghost use Rattle.reg_io.specs.Counts.{HasCause};
+ghost use Rattle.reg_io.specs.FailingCalls.{fails_next, next_call};
 
 use crate::device::{Device, Failed};
 use crate::failing_calls::FailingCalls;
@@ -93,7 +97,17 @@ impl Device for FailingSource {
 }
 
 impl Source for FailingSource {
-    fn read(&mut self, into: &mut [u8]) -> Result<usize, Failed> {
+    fn read(&mut self, into: &mut [u8]) -> Result<usize, Failed>
+        ensures bound { ReadsAtMost result into.new }
+        ensures bytes { ReadConsumes (Some self.old.source) (Some self.new.source)
+            result into.new }
+
+        // It fails exactly at the calls that are listed, and its count rises there alone.
+        ensures listed { is_err result ≡ fails_next self.old.failing }
+        ensures next { self.new.failing ≡ next_call self.old.failing }
+        ensures cause { HasCause self.old.faults self.new.faults result }
+        ensures counts { OnOk result (self.new.faults ≡ self.old.faults) }
+    {
         if self.failing.next_fails() {
             self.faults = self.faults.saturating_add(1);
             return Err(Failed);

@@ -1,7 +1,7 @@
 //! Where files are read from by name.
 ghost use Rattle.std.specs.Prelude.{◌≡◌, ◌≤◌, ℕ, List, Option, None, IfOk, IfSome, vec_len};
 ghost use Rattle.reg_io.specs.Counts.{Rose};
-ghost use Rattle.reg_io.specs.Files.{Reads, file_named, file_read};
+ghost use Rattle.reg_io.specs.Files.{ReadsFile, file_named, file_read};
 ghost use Rattle.reg_io.specs.declared.shelf.ShelfFault.TheVariants.{Memory};
 
 use std::alloc::{AllocError, Global};
@@ -31,7 +31,7 @@ pub trait Shelf {
     /// The bytes of a file, of which there may be `most`.
     fn read_file(&mut self, alloc: Global, name: &str, most: u64) -> Result<Vec<u8>, ShelfFault>
         ensures read { IfSome (files self.old) (λ all.
-            Reads (file_read (file_named name.now all) most) result) }
+            ReadsFile (file_read (file_named name.now all) most) result) }
         ensures bound { IfOk result (λ bytes. vec_len bytes ≤ most) }
         ensures cause { result ≡ Err ShelfFault.Failed → Rose (faults self.old) (faults self.new) }
 

@@ -15,7 +15,8 @@ pub struct ReaderSource<R> {
 
 impl<R: Read> ReaderSource<R> {
     pub fn new(reader: R) -> ReaderSource<R>
-        ensures { ⟦<ReaderSource<R> as Device>⟧.read_faults result ≡ 0 }
+        ensures left { ⟦<ReaderSource<R> as Device>⟧.left result ≡ R.remaining reader }
+        ensures faults { ⟦<ReaderSource<R> as Device>⟧.read_faults result ≡ 0 }
     {
         ReaderSource { reader, faults: 0 }
     }
@@ -56,7 +57,8 @@ pub struct WriterSink<W> {
 
 impl<W: Write> WriterSink<W> {
     pub fn new(writer: W) -> WriterSink<W>
-        ensures { ⟦<WriterSink<W> as Device>⟧.write_faults result ≡ 0 }
+        ensures taken { ⟦<WriterSink<W> as Device>⟧.taken result ≡ W.contents writer }
+        ensures faults { ⟦<WriterSink<W> as Device>⟧.write_faults result ≡ 0 }
     {
         WriterSink { writer, faults: 0 }
     }

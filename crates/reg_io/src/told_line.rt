@@ -1,12 +1,12 @@
 //! A line as it stands, told without its end.
 ghost use Rattle.std.specs.Prelude.{◌≡◌, true, false, IfOk, if◌then◌else◌};
-ghost use Rattle.reg_io.specs.Lines.{line_of, text_of, without_return};
+ghost use Rattle.reg_io.specs.Lines.{line_of, raw_text, without_return};
 
-use crate::line::{Line, MOST_LINE_BYTES};
-use reg_base::List;
+use crate::line::MOST_LINE_BYTES;
+use reg_base::{Line, List};
 use std::alloc::{AllocError, Global};
 
-/// The line of these bytes, behind which a line feed stood where it is ended.
+// The line of these bytes, behind which a line feed stood where it is ended.
 pub(crate) fn told_line(alloc: Global, content: &[u8], ended: bool) -> Result<Line, AllocError>
     ensures { IfOk result (λ line. line
         ≡ line_of (record { content = content.now; ended = ended })) }

@@ -8,7 +8,8 @@
 //! A read puts bytes behind the end. Where nothing is free there, the bytes here move to the front
 //! first. As a line has at most half of the buffer, at least as many bytes were read since the
 //! last such move as now move, so that all moves together cost no more than the reads.
-ghost use Rattle.std.specs.Prelude.{◌≡◌, ◌+◌, ◌-◌, ◌<◌, ◌≤◌, [], drop, length, take, slice_range, IfOk, Ok, MatchResult, vec_len};
+ghost use Rattle.std.specs.Prelude.{◌≡◌, ◌+◌, ◌-◌, ◌<◌, ◌≤◌, [], drop, length, take, slice_range};
+ghost use Rattle.std.specs.Prelude.{IfOk, Ok, MatchResult, vec_len};
 ghost use Rattle.std.specs.Io.{WritesAtMost};
 ghost use Rattle.std.specs.Io.KnownBytes.{ReadConsumes};
 ghost use Rattle.reg_io.specs.Counts.{HasCause, LeavesSide};
@@ -19,10 +20,10 @@ use crate::source::Source;
 use std::alloc::{AllocError, Global};
 use std::marker::Model;
 
-/// How many bytes the buffer has: twice those of the longest line that is told.
+// How many bytes the buffer has: twice those of the longest line that is told.
 pub(crate) const WINDOW_BYTES: usize = 2_097_152;
 
-/// Bytes that were read, seen as those not yet given.
+// Bytes that were read, seen as those not yet given.
 #[derive(Drop)]
 pub(crate) struct Window {
     buffer: Vec<u8>,
@@ -43,7 +44,7 @@ impl Model for Window {
 }
 
 impl Window {
-    /// A window without bytes.
+    // A window without bytes.
     pub(crate) fn new(alloc: Global) -> Result<Window, AllocError>
         ensures { IfOk result (λ w. w ≡ []) }
     {
@@ -62,7 +63,7 @@ impl Window {
         &self.buffer[self.start..self.end]
     }
 
-    /// Gives away the first bytes.
+    // Gives away the first bytes.
     pub(crate) fn drop_front(&mut self, count: usize)
         requires { count ≤ length self.old }
         ensures { self.new ≡ drop count self.old }
@@ -70,7 +71,7 @@ impl Window {
         self.start += count;
     }
 
-    /// Reads once, and puts at most `most` bytes behind those here.
+    // Reads once, and puts at most `most` bytes behind those here.
     pub(crate) fn fill<S: Source>(&mut self, source: &mut S, most: usize) -> Result<usize, Failed>
         requires some { 0 < most }
         requires free { length self.old < WINDOW_BYTES }
@@ -109,7 +110,7 @@ fn pack(buffer: &mut [u8], start: usize, end: usize) -> usize
     0
 }
 
-// Reads once behind the bytes from `start` to `end`, at most `most` bytes.
+// ReadsFile once behind the bytes from `start` to `end`, at most `most` bytes.
 fn refill<S: Source>(
     source: &mut S,
     buffer: &mut [u8],
@@ -142,7 +143,7 @@ fn refill<S: Source>(
     }
 }
 
-// Reads once into the part of the buffer from `end` on, at most `most` bytes.
+// ReadsFile once into the part of the buffer from `end` on, at most `most` bytes.
 fn read_at<S: Source>(
     source: &mut S,
     buffer: &mut [u8],

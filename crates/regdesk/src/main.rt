@@ -20,7 +20,7 @@ fn main(rt: HostRuntime) -> ExitCode {
     let mut err = WriterSink::new(rt.stderr());
     let words = match program::words_of(&rt) {
         Ok(words) => words,
-        Err(fault) => return program::refuse(alloc, fault, &mut err),
+        Err(fault) => return program::refuse(fault, &mut err),
     };
     let finish = desk_main(
         &rt,

@@ -6,12 +6,11 @@ ghost use Rattle.desk_run.specs.Statuses.{status_of};
 
 use desk_run::{Fault, complain, end_status};
 use reg_io::Sink;
-use std::alloc::Global;
 use std::process::ExitCode;
 use std::rt::Env;
 use std::{env, io};
 
-/// The words behind the program's name. Words that are no text are none of the lists.
+// The words behind the program's name. Words that are no text are none of the lists.
 pub(crate) fn words_of<R: Env + AllocGlobal>(rt: &R) -> Result<Vec<String>, Fault>
     ensures { IfErr result (λ fault. (fault ≡ Fault.Memory) ⊎ (fault ≡ Fault.Usage)) }
 {
@@ -30,13 +29,13 @@ pub(crate) fn words_of<R: Env + AllocGlobal>(rt: &R) -> Result<Vec<String>, Faul
     Ok(words)
 }
 
-/// Ends with the status of a fault, and its line.
-pub(crate) fn refuse<E: Sink>(alloc: Global, fault: Fault, err: &mut E) -> ExitCode
+// Ends with the status of a fault, and its line.
+pub(crate) fn refuse<E: Sink>(fault: Fault, err: &mut E) -> ExitCode
     ensures status { exit_status result ≡ status_of fault }
     ensures complains { Complains [] (Err fault) (E.taken err.old) (E.taken err.new)
         (E.write_faults err.old) (E.write_faults err.new) }
 {
     let end = Err(fault);
-    complain(alloc, &[], &end, err);
+    complain(&[], &end, err);
     ExitCode::from(end_status(&end))
 }

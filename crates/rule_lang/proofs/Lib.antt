@@ -1,6 +1,8 @@
 pub mod LeastLemmas
+mod ResolvesLemmas
 mod StepLemmas
 mod ResolvedLemmas
+mod BindLemmas
 mod ActLemmas
 mod ConditionLemmas
 mod SequenceLemmas
@@ -22,3 +24,4 @@ mod ReadBackLemmas
 pub mod RuleLemmas
 pub mod PrintLemmas
 mod WorkedRows
+mod WorkedVerbs

@@ -1,5 +1,6 @@
 -- The canonical text of a type is read back to the same statements.
-use Rattle.std.proofs.Common.{◌≡◌, ℕ, zero, suc, ◌+◌, drop, add-one, true, List, [], ◌∷◌, Some, None, Result, Ok, Err, IfOk, refl, ap, subst, ◌∙◌, slice_get}
+use Rattle.std.proofs.Common.{◌≡◌, ℕ, true, List, [], ◌∷◌, None, Result, Ok, Err, IfOk, refl, ap}
+use Rattle.std.proofs.Common.{subst, ◌∙◌}
 use Rattle.std.specs.List.{list_all}
 use Rattle.cfg_model.specs.declared.config.Config.{Config}
 use Rattle.cfg_model.specs.declared.kind.Kind.{Kind}
@@ -7,14 +8,13 @@ use Rattle.rule_text.specs.Sentences.{statements_of}
 use Rattle.rule_text.specs.declared.fault.TextFault.{TextFault}
 use Rattle.rule_text.specs.declared.fault.TextFault.TheVariants.{Syntax, Memory}
 use Rattle.rule_text.specs.declared.plain.PlainStatement.{PlainStatement}
-use Rattle.rule_text.proofs.PlainTexts.{statements_text as plain_statements_text, placed}
-use Rattle.rule_text.proofs.ReadTests.{statement_read}
-use Rattle.rule_text.proofs.StatementReads.{statements_of-fits}
-use Rattle.rule_text.proofs.TextsReadBack.{texts-read-back}
-use Rattle.rule_lang.specs.Printed.{with_rules, with_kinds, printed_from, printed}
+use Rattle.rule_text.proofs.ForAbove.{statements_text as plain_statements_text, placed}
+use Rattle.rule_text.proofs.ForAbove.{statement_read}
+use Rattle.rule_text.proofs.ForAbove.{statements_of-fits}
+use Rattle.rule_text.proofs.ForAbove.{texts-read-back}
+use Rattle.rule_lang.specs.Printed.{with_rules, with_kinds, kinds_with_texts, with_canonical_texts}
 use Rattle.rule_lang.specs.Rules.{read_for, kind_rules, each_kind, rules_of}
-use Rattle.rule_lang.specs.RuleTexts.{statements_text, rules_text}
-use Rattle.rule_lang.specs.TermTexts.{text_if}
+use Rattle.rule_lang.specs.RuleTexts.{rules_text}
 use Rattle.rule_lang.specs.declared.costs.Costs.{Costs}
 use Rattle.rule_lang.specs.declared.statement.Statement.{Statement}
 use Rattle.rule_lang.proofs.OtherActs.{statements_from-others}
@@ -25,21 +25,27 @@ use Rattle.rule_lang.proofs.WrittenRules.{AreWritten, statements_from-written}
 abbrev no_costs : Costs
 no_costs = record { once = None; each = None }
 
-read_for-IfOk : (kind : Kind) (read : Result (List PlainStatement) TextFault) (P : List PlainStatement → Type 0) → IfOk read P → IfOk (read_for kind read) P
+read_for-IfOk : (kind : Kind) (read : Result (List PlainStatement) TextFault)
+    (P : List PlainStatement → Type 0) → IfOk read P → IfOk (read_for kind read) P
 read_for-IfOk kind (Ok plains) P p = p
 read_for-IfOk kind (Err (Syntax place)) P p = tt
 read_for-IfOk kind (Err Memory) P p = tt
 
-kind_rules-written : (config : Config) (kind : Kind) → IfOk (kind_rules config kind) (AreWritten config kind no_costs 0)
+kind_rules-written : (config : Config) (kind : Kind)
+    → IfOk (kind_rules config kind) (AreWritten config kind no_costs 0)
 unfolding kind_rules
 kind_rules-written config kind =
-    step-IfOk _ _ (read_for kind (statements_of kind.rules)) (λ plains. list_all statement_read plains ≡ true)
-    (read_for-IfOk kind (statements_of kind.rules) (λ plains. list_all statement_read plains ≡ true) (statements_of-fits kind.rules))
+    step-IfOk _ _ (read_for kind (statements_of kind.rules))
+    (λ plains. list_all statement_read plains ≡ true)
+    (read_for-IfOk kind (statements_of kind.rules) (λ plains. list_all statement_read plains ≡ true)
+    (statements_of-fits kind.rules))
     (λ plains read. statements_from-written config kind no_costs 0 plains read)
 
 -- the text that is written reads as the same, whatever texts other types have
-read_back : (config : Config) (kinds : List Kind) (kind : Kind) (text : List ℕ) (statements : List Statement)
-    → (are : AreWritten config kind no_costs 0 statements) → text ≡ plain_statements_text are.written
+read_back : (config : Config) (kinds : List Kind) (kind : Kind) (text : List ℕ)
+    (statements : List Statement)
+    → (are : AreWritten config kind no_costs 0 statements)
+    → text ≡ plain_statements_text are.written
     → kind_rules (with_kinds config kinds) (with_rules kind text) ≡ Ok statements
 unfolding kind_rules
 read_back config kinds kind text statements are is =
@@ -47,43 +53,39 @@ read_back config kinds kind text statements are is =
     (statements_from-others config kinds kind text no_costs 0 (placed 0 are.written) ∙ are.same 0)
 
 -- the canonical text in the place of a type's own gives the same statements
-pub kind_reads_back : (config : Config) (place : ℕ) (kind : Kind) (statements : List Statement)
-    → slice_get config.kinds place ≡ Some kind → kind_rules config kind ≡ Ok statements
-    → kind_rules config (with_rules kind (rules_text config place statements)) ≡ Ok statements
+pub kind_reads_back : (config : Config) (kind : Kind) (statements : List Statement)
+    → kind_rules config kind ≡ Ok statements
+    → kind_rules config (with_rules kind (rules_text config kind statements)) ≡ Ok statements
 unfolding rules_text
-kind_reads_back config place kind statements at read =
-    let are : AreWritten config kind no_costs 0 statements = subst (λ r. IfOk r (AreWritten config kind no_costs 0)) read (kind_rules-written config kind) in
-    read_back config config.kinds kind (rules_text config place statements) statements are
-    (ap (text_if (λ (k : Kind). statements_text config k no_costs statements)) at ∙ are.text)
+kind_reads_back config kind statements read =
+    let are : AreWritten config kind no_costs 0 statements =
+    subst (λ r. IfOk r (AreWritten config kind no_costs 0)) read (kind_rules-written config kind) in
+    read_back config config.kinds kind (rules_text config kind statements) statements are are.text
 
--- what a list from a place on begins with stands at the place
-first-at : {X : Type 0} (xs : List X) (place : ℕ) (x : X) (rest : List X) → drop place xs ≡ x ∷ rest
-    → (slice_get xs place ≡ Some x) × (drop (suc place) xs ≡ rest)
-first-at [] zero x rest e = absurd (cc)
-first-at [] (suc place) x rest e = absurd (cc)
-first-at (y ∷ ys) zero x rest e = (cc, cc)
-first-at (y ∷ ys) (suc place) x rest e = first-at ys place x rest e
-
-kinds_read_back : (config : Config) (place : ℕ) (kinds : List Kind) → drop place config.kinds ≡ kinds
-    → IfOk (each_kind config kinds) (λ rules. (others : List Kind) → each_kind (with_kinds config others) (printed_from config place kinds rules) ≡ Ok rules)
+kinds_read_back : (config : Config) (kinds : List Kind)
+    → IfOk (each_kind config kinds) (λ rules. (others : List Kind)
+    → each_kind (with_kinds config others) (kinds_with_texts config kinds rules) ≡ Ok rules)
 unfolding each_kind rules_text
-kinds_read_back config place [] is = λ others. refl
-kinds_read_back config place (kind ∷ kinds) is =
-    let at = first-at config.kinds place kind kinds is in
-    step-IfOk _ _ (kind_rules config kind) (AreWritten config kind no_costs 0) (kind_rules-written config kind)
+kinds_read_back config [] = λ others. refl
+kinds_read_back config (kind ∷ kinds) =
+    step-IfOk _ _ (kind_rules config kind) (AreWritten config kind no_costs 0)
+    (kind_rules-written config kind)
     (λ statements are. step-IfOk _ _ (each_kind config kinds)
-    (λ rules. (others : List Kind) → each_kind (with_kinds config others) (printed_from config (place + 1) kinds rules) ≡ Ok rules)
-    (kinds_read_back config (place + 1) kinds (rw add-one at.1))
+    (λ rules. (others : List Kind)
+    → each_kind (with_kinds config others) (kinds_with_texts config kinds rules) ≡ Ok rules)
+    (kinds_read_back config kinds)
     (λ rules rest others. rw (
-      read_back config others kind (rules_text config place statements) statements are
-          (ap (text_if (λ (k : Kind). statements_text config k no_costs statements)) at.0 ∙ are.text),
+      read_back config others kind (rules_text config kind statements) statements are are.text,
       rest others,
     ) refl))
 
 -- the canonical texts in the place of the types' own give the same rules
-pub rules_read_back : (config : Config) → IfOk (rules_of config) (λ rules. rules_of (printed config rules) ≡ Ok rules)
+pub rules_read_back : (config : Config)
+    → IfOk (rules_of config) (λ rules. rules_of (with_canonical_texts config rules) ≡ Ok rules)
 unfolding rules_of
 rules_read_back config = IfOk-follows (each_kind config config.kinds)
-    (λ rules. (others : List Kind) → each_kind (with_kinds config others) (printed_from config 0 config.kinds rules) ≡ Ok rules)
-    (λ rules. rules_of (printed config rules) ≡ Ok rules)
-    (λ rules rest. rest (printed_from config 0 config.kinds rules)) (kinds_read_back config 0 config.kinds refl)
+    (λ rules. (others : List Kind)
+    → each_kind (with_kinds config others) (kinds_with_texts config config.kinds rules) ≡ Ok rules)
+    (λ rules. rules_of (with_canonical_texts config rules) ≡ Ok rules)
+    (λ rules rest. rest (kinds_with_texts config config.kinds rules))
+    (kinds_read_back config config.kinds)

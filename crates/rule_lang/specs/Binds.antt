@@ -11,10 +11,11 @@ use Rattle.rule_text.specs.declared.token.Spelling.TheVariants.{Named, Other}
 use Rattle.rule_text.specs.declared.plain.PlainAmount.{PlainAmount}
 use Rattle.rule_text.specs.declared.plain.PlainBind.{PlainBind}
 use Rattle.rule_text.specs.declared.plain.PlainTo.{PlainTo}
-use Rattle.rule_text.specs.declared.plain.PlainTo.TheVariants.{Code as PlainCodeTo, Point as PlainPoint}
+use Rattle.rule_text.specs.declared.plain.PlainTo.TheVariants.{Code as PlainCodeTo}
+use Rattle.rule_text.specs.declared.plain.PlainTo.TheVariants.{Point as PlainPoint}
 use Rattle.rule_lang.specs.Least.{Checked, beside}
 use Rattle.rule_lang.specs.Fields.{place_of, item_at}
-use Rattle.rule_lang.specs.Terms.{code_of, sum_of}
+use Rattle.rule_lang.specs.Terms.{resolved_code, resolved_sum}
 use Rattle.rule_lang.specs.declared.fault.RuleWhy.TheVariants.{WrongType}
 use Rattle.rule_lang.specs.declared.terms.Round.{Round}
 use Rattle.rule_lang.specs.declared.statement.Bind.{Bind}
@@ -23,28 +24,28 @@ use Rattle.rule_lang.specs.declared.statement.BindTo.TheVariants.{Code, Point}
 use Rattle.rule_lang.specs.declared.statement.Sum.{Sum}
 
 -- `point` for a lot, and a code for every other dimension
-unfoldable pub bind_to : Kind → Round → Bool → PlainTo → Checked BindTo
-bind_to kind round lot PlainPoint = do
+unfoldable pub resolved_bind_to : Kind → Round → Bool → PlainTo → Checked BindTo
+resolved_bind_to kind round lot PlainPoint = do
   _ ← unless lot WrongType
   Ok Point
-bind_to kind round lot (PlainCodeTo plain) = do
-  code ← beside (unless (not lot) WrongType) (code_of kind round plain)
+resolved_bind_to kind round lot (PlainCodeTo plain) = do
+  code ← beside (unless (not lot) WrongType) (resolved_code kind round plain)
   Ok (Code code)
 
 -- a dimension of the register with its value
-unfoldable pub bind_of : Kind → Round → Register → PlainBind → Checked Bind
-bind_of kind round register plain = do
+unfoldable pub resolved_bind : Kind → Round → Register → PlainBind → Checked Bind
+resolved_bind kind round register plain = do
   place ← place_of (λ d. d.name) register.dimensions plain.dimension
   dimension ← item_at register.dimensions place
-  to ← bind_to kind round dimension.lot plain.to
+  to ← resolved_bind_to kind round dimension.lot plain.to
   Ok (record { dimension = place; to = to })
 
 -- a resource of the register with its number
-unfoldable pub amount_of : Kind → Round → Register → PlainAmount → Checked (ℕ × Sum)
-amount_of kind round register plain = do
+unfoldable pub resolved_amount : Kind → Round → Register → PlainAmount → Checked (ℕ × Sum)
+resolved_amount kind round register plain = do
   place ← place_of (λ r. r.name) register.resources plain.resource
   resource ← item_at register.resources place
-  sum ← sum_of kind round (Some resource.scale) plain.sum
+  sum ← resolved_sum kind round (Some resource.scale) plain.sum
   Ok (place, sum)
 
 -- whether the dimension has a value
@@ -52,8 +53,8 @@ abbrev pub is_bound : List PlainBind → Dimension → Bool
 is_bound binds dimension = list_any (λ b. is_spelt dimension.name b.dimension) binds
 
 -- whether each dimension has a value, or is a lot where lots need none
-abbrev pub all_bound : Bool → Register → List PlainBind → Bool
-all_bound lots_free register binds =
+abbrev pub binds_each_dimension : Bool → Register → List PlainBind → Bool
+binds_each_dimension lots_free register binds =
     list_all (λ d. (lots_free && d.lot) || is_bound binds d) register.dimensions
 
 -- whether two words are one name

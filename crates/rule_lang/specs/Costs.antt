@@ -1,12 +1,15 @@
 -- The scales of the latest write-offs, by scope.
-use Rattle.std.specs.Prelude.{ℕ, Bool, true, false, Option, Some, None, option_and_then, option_map, slice_get}
+use Rattle.std.specs.Prelude.{ℕ, Bool, true, false, Option, Some, None, option_and_then, option_map}
+use Rattle.std.specs.Prelude.{slice_get}
 use Rattle.cfg_model.specs.declared.config.Config.{Config}
+use Rattle.cfg_model.specs.declared.register.Register.{Register}
 use Rattle.rule_text.specs.declared.plain.Scope.{Scope}
 use Rattle.rule_text.specs.declared.plain.Scope.TheVariants.{Once, EachLine}
 use Rattle.rule_lang.specs.declared.costs.Costs.{Costs}
 use Rattle.rule_lang.specs.declared.terms.Round.{Round}
 use Rattle.rule_lang.specs.declared.statement.Act.{Act}
-use Rattle.rule_lang.specs.declared.statement.Act.TheVariants.{Make, WriteOff, Require, Control, Entry}
+use Rattle.rule_lang.specs.declared.statement.Act.TheVariants.{Make, WriteOff, Require, Control}
+use Rattle.rule_lang.specs.declared.statement.Act.TheVariants.{Entry}
 
 -- a statement without a scope runs once
 abbrev pub is_each : Option Scope → Bool
@@ -22,11 +25,14 @@ round_of costs scope = by_each (is_each scope)
     by_each true = record { each = true; cost = costs.each }
     by_each false = record { each = false; cost = costs.once }
 
--- the scale of a resource of a register
+-- the scale of the resource at a place
+abbrev pub resource_scale : Register → ℕ → Option ℕ
+resource_scale register place = option_map (λ r. r.scale) (slice_get register.resources place)
+
+-- the scale of a resource of a register, each at its place
 unfoldable pub scale_at : Config → ℕ → ℕ → Option ℕ
 scale_at config register resource =
-    option_and_then (λ r. option_map (λ s. s.scale) (slice_get r.resources resource))
-    (slice_get config.registers register)
+    option_and_then (λ r. resource_scale r resource) (slice_get config.registers register)
 
 -- the scale of the latest write-off of one scope in place of what was there
 abbrev pub with_scale : Costs → Bool → Option ℕ → Costs

@@ -7,9 +7,9 @@ use Rattle.rule_text.specs.declared.token.Spelling.{Spelling}
 use Rattle.rule_text.specs.declared.plain.PlainSide.{PlainSide}
 use Rattle.rule_text.specs.declared.plain.PlainSides.{PlainSides}
 use Rattle.rule_text.specs.declared.plain.PlainTerm.{PlainTerm}
-use Rattle.rule_lang.specs.Least.{Checked, both, each}
+use Rattle.rule_lang.specs.Least.{Checked, both, each_or_least}
 use Rattle.rule_lang.specs.Fields.{place_of, item_at}
-use Rattle.rule_lang.specs.Terms.{code_of, sum_of}
+use Rattle.rule_lang.specs.Terms.{resolved_code, resolved_sum}
 use Rattle.rule_lang.specs.declared.terms.Round.{Round}
 use Rattle.rule_lang.specs.declared.statement.Act.{Act}
 use Rattle.rule_lang.specs.declared.statement.Act.TheVariants.{Entry}
@@ -17,16 +17,17 @@ use Rattle.rule_lang.specs.declared.statement.Place.{Place}
 use Rattle.rule_lang.specs.declared.statement.Sum.{Sum}
 
 -- an account with its extras
-unfoldable pub account_of : Kind → Round → PlainSide → Checked Place
-account_of kind round side = do
-  p ← both (code_of kind round side.account) (each (code_of kind round) side.extras)
+unfoldable pub resolved_account : Kind → Round → PlainSide → Checked Place
+resolved_account kind round side = do
+  p ← both (resolved_code kind round side.account) (each_or_least (resolved_code kind round)
+      side.extras)
   Ok (record { account = p.0; extras = p.1 })
 
 -- a side, which may be absent
-unfoldable pub side_of : Kind → Round → Option PlainSide → Checked (Option Place)
-side_of kind round None = Ok None
-side_of kind round (Some side) = do
-  place ← account_of kind round side
+unfoldable pub resolved_side : Kind → Round → Option PlainSide → Checked (Option Place)
+resolved_side kind round None = Ok None
+resolved_side kind round (Some side) = do
+  place ← resolved_account kind round side
   Ok (Some place)
 
 -- an entry of its parts
@@ -36,11 +37,11 @@ entry_act place parts = do
   Ok (Entry place p.0.0 p.0.1 p.1)
 
 -- entry
-unfoldable pub entry_of : Config → Kind → Round → Spelling → PlainSides → List PlainTerm
+unfoldable pub resolved_entry : Config → Kind → Round → Spelling → PlainSides → List PlainTerm
     → Checked Act
-entry_of config kind round ledger sides amount = do
+resolved_entry config kind round ledger sides amount = do
   place ← place_of (λ c. c.name) config.ledgers ledger
   chart ← item_at config.ledgers place
   entry_act place
-      (both (both (side_of kind round sides.debit) (side_of kind round sides.credit))
-      (sum_of kind round (Some chart.scale) amount))
+      (both (both (resolved_side kind round sides.debit) (resolved_side kind round sides.credit))
+      (resolved_sum kind round (Some chart.scale) amount))

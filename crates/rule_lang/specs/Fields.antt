@@ -1,5 +1,7 @@
 -- Names as places in the configuration, and numbers as units at a scale.
-use Rattle.std.specs.Prelude.{ℕ, Bool, true, false, ◌-◌, ◌*◌, ◌^◌, ◌==◌, ◌&&◌, nat_lt, nat_le, List, Option, Some, None, position, slice_get, is_none, ℤ, pos, Ok, Err, if◌then◌else◌}
+use Rattle.std.specs.Prelude.{ℕ, Bool, true, false, ◌-◌, ◌*◌, ◌^◌, ◌==◌, ◌&&◌, nat_lt, nat_le, List}
+use Rattle.std.specs.Prelude.{Option, Some, None, position, slice_get, is_none, ℤ, pos, Ok, Err}
+use Rattle.std.specs.Prelude.{if◌then◌else◌}
 use Rattle.std.specs.Str.{bytes_eq}
 use Rattle.reg_base.specs.Numbers.{largest_units}
 use Rattle.reg_base.specs.Results.{◌>>=◌, unless, some_or}
@@ -26,8 +28,8 @@ abbrev pub item_at : {X : Type 0} → List X → ℕ → Checked X
 item_at xs place = some_or (slice_get xs place) UnknownName
 
 -- a field by its name, with the scale of its numbers, which is none for a code
-unfoldable pub field_of : List Field → Spelling → Checked FieldAt
-field_of fields spelling = do
+unfoldable pub resolved_field : List Field → Spelling → Checked FieldAt
+resolved_field fields spelling = do
   place ← place_of (λ f. f.name) fields spelling
   field ← item_at fields place
   Ok (record { place = place; scale = field.scale })
@@ -39,16 +41,16 @@ fits None (Some scale) = true
 fits (Some asked) (Some scale) = asked == scale
 
 -- a field with numbers of the scale that is asked for
-unfoldable pub number_field : List Field → Option ℕ → Spelling → Checked ℕ
-number_field fields asked spelling = do
-  found ← field_of fields spelling
+unfoldable pub resolved_number_field : List Field → Option ℕ → Spelling → Checked ℕ
+resolved_number_field fields asked spelling = do
+  found ← resolved_field fields spelling
   _ ← unless (fits asked found.scale) WrongType
   Ok found.place
 
 -- a field with codes
-unfoldable pub code_field : List Field → Spelling → Checked ℕ
-code_field fields spelling = do
-  found ← field_of fields spelling
+unfoldable pub resolved_code_field : List Field → Spelling → Checked ℕ
+resolved_code_field fields spelling = do
+  found ← resolved_field fields spelling
   _ ← unless (is_none found.scale) WrongType
   Ok found.place
 

@@ -1,7 +1,11 @@
 -- Checks of which the reason of the least number is told.
-use Rattle.std.specs.Prelude.{ℕ, nat_le, List, [], ◌∷◌, Option, Some, None, Result, Ok, Err, if◌then◌else◌}
+use Rattle.std.specs.Prelude.{ℕ, nat_le, List, [], ◌∷◌, Option, Some, None, Result, Ok, Err}
+use Rattle.std.specs.Prelude.{if◌then◌else◌}
 use Rattle.rule_lang.specs.declared.fault.RuleWhy.{RuleWhy}
-use Rattle.rule_lang.specs.declared.fault.RuleWhy.TheVariants.{Syntax, UnknownName, Unbound, TwiceBound, WrongType, WrongScope, WrongRegister, TooMany, SequenceUnbound}
+use Rattle.rule_lang.specs.declared.fault.RuleWhy.TheVariants.{Syntax, UnknownName, Unbound}
+use Rattle.rule_lang.specs.declared.fault.RuleWhy.TheVariants.{TwiceBound, WrongType, WrongScope}
+use Rattle.rule_lang.specs.declared.fault.RuleWhy.TheVariants.{WrongRegister, TooMany}
+use Rattle.rule_lang.specs.declared.fault.RuleWhy.TheVariants.{SequenceUnbound}
 
 -- the number of a reason
 unfoldable pub why_number : RuleWhy → ℕ
@@ -42,9 +46,9 @@ with_first (Ok p) = Ok (p.0 ∷ p.1)
 with_first (Err why) = Err why
 
 -- each of them, or the least of the reasons against them
-unfoldable pub each : {X Y : Type 0} → (X → Checked Y) → List X → Checked (List Y)
-each check [] = Ok []
-each check (x ∷ xs) = with_first (both (check x) (each check xs))
+unfoldable pub each_or_least : {X Y : Type 0} → (X → Checked Y) → List X → Checked (List Y)
+each_or_least check [] = Ok []
+each_or_least check (x ∷ xs) = with_first (both (check x) (each_or_least check xs))
 
 -- the lesser of the reason that was there, if one was, and of this one
 abbrev pub with_one : Option RuleWhy → RuleWhy → RuleWhy

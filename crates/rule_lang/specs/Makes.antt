@@ -9,7 +9,7 @@ use Rattle.rule_text.specs.declared.plain.PlainBind.{PlainBind}
 use Rattle.rule_text.specs.declared.plain.Target.{Target}
 use Rattle.rule_text.specs.declared.plain.Verb.{Verb}
 use Rattle.rule_text.specs.declared.plain.Verb.TheVariants.{Receipt, Expense, Turn}
-use Rattle.rule_lang.specs.Least.{Checked, both, beside, each}
+use Rattle.rule_lang.specs.Least.{Checked, both, beside, each_or_least}
 use Rattle.rule_lang.specs.Fields.{place_of, item_at}
 use Rattle.rule_lang.specs.declared.fault.RuleWhy.TheVariants.{Unbound, TwiceBound, WrongRegister}
 use Rattle.rule_lang.specs.declared.terms.Round.{Round}
@@ -17,7 +17,7 @@ use Rattle.rule_lang.specs.declared.statement.Act.{Act}
 use Rattle.rule_lang.specs.declared.statement.Act.TheVariants.{Make}
 use Rattle.rule_lang.specs.declared.statement.Bind.{Bind}
 use Rattle.rule_lang.specs.declared.statement.Sum.{Sum}
-use Rattle.rule_lang.specs.Binds.{bind_of, amount_of, all_bound, none_twice}
+use Rattle.rule_lang.specs.Binds.{resolved_bind, resolved_amount, binds_each_dimension, none_twice}
 
 -- receipts and expenses are for registers with balances, turns for those without
 abbrev pub suits : Verb → Bool → Bool
@@ -29,7 +29,7 @@ suits Turn balance = not balance
 unfoldable pub make_fits : Verb → Register → List PlainBind → List PlainAmount
     → Checked (Unit {0})
 make_fits verb register binds sums = do
-  _ ← unless (all_bound false register binds) Unbound
+  _ ← unless (binds_each_dimension false register binds) Unbound
   _ ← unless (none_twice (λ b. b.dimension) binds) TwiceBound
   _ ← unless (none_twice (λ a. a.resource) sums) TwiceBound
   unless (suits verb register.balance) WrongRegister
@@ -41,15 +41,18 @@ make_act verb place parts = do
   Ok (Make verb place p.0 p.1)
 
 -- a record of the register at the place
-unfoldable pub made : Kind → Round → ℕ → Register → Verb → List PlainBind → List PlainAmount
+unfoldable pub resolved_record : Kind → Round → ℕ → Register → Verb → List PlainBind
+    → List PlainAmount
     → Checked Act
-made kind round place register verb binds sums =
+resolved_record kind round place register verb binds sums =
     make_act verb place (beside (make_fits verb register binds sums)
-    (both (each (bind_of kind round register) binds) (each (amount_of kind round register) sums)))
+    (both (each_or_least (resolved_bind kind round register) binds)
+    (each_or_least (resolved_amount kind round register) sums)))
 
 -- receipt, expense, turn
-unfoldable pub make_of : Config → Kind → Round → Verb → Target → List PlainAmount → Checked Act
-make_of config kind round verb target sums = do
+unfoldable pub resolved_make : Config → Kind → Round → Verb → Target → List PlainAmount
+    → Checked Act
+resolved_make config kind round verb target sums = do
   place ← place_of (λ r. r.name) config.registers target.register
   register ← item_at config.registers place
-  made kind round place register verb target.binds sums
+  resolved_record kind round place register verb target.binds sums

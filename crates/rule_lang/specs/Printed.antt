@@ -1,5 +1,5 @@
 -- A configuration in which each document type has the canonical text of its statements.
-use Rattle.std.specs.Prelude.{ℕ, ◌+◌, List, [], ◌∷◌}
+use Rattle.std.specs.Prelude.{ℕ, List, [], ◌∷◌}
 use Rattle.cfg_model.specs.declared.config.Config.{Config}
 use Rattle.cfg_model.specs.declared.kind.Kind.{Kind}
 use Rattle.rule_lang.specs.RuleTexts.{rules_text}
@@ -20,14 +20,13 @@ with_kinds config kinds = record {
   clerks = config.clerks;
 }
 
--- types from this place on, each with the canonical text of its statements in the place of its own
-abbrev pub printed_from : Config → ℕ → List Kind → List (List Statement) → List Kind
-printed_from config place [] rules = []
-printed_from config place (kind ∷ kinds) [] = kind ∷ kinds
-printed_from config place (kind ∷ kinds) (statements ∷ rules) =
-    with_rules kind (rules_text config place statements)
-    ∷ printed_from config (place + 1) kinds rules
+-- types, each with the canonical text of its statements in the place of its own
+abbrev pub kinds_with_texts : Config → List Kind → List (List Statement) → List Kind
+kinds_with_texts config [] rules = []
+kinds_with_texts config (kind ∷ kinds) [] = kind ∷ kinds
+kinds_with_texts config (kind ∷ kinds) (statements ∷ rules) =
+    with_rules kind (rules_text config kind statements) ∷ kinds_with_texts config kinds rules
 
 -- the configuration with the canonical texts of these rules in the place of its own
-abbrev pub printed : Config → List (List Statement) → Config
-printed config rules = with_kinds config (printed_from config 0 config.kinds rules)
+abbrev pub with_canonical_texts : Config → List (List Statement) → Config
+with_canonical_texts config rules = with_kinds config (kinds_with_texts config config.kinds rules)

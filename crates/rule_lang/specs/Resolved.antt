@@ -1,112 +1,144 @@
--- What the places of a statement name: each is there, and has the sort and the scale that its use
--- asks for.
-use Rattle.std.specs.Prelude.{◌≡◌, ℕ, Bool, true, false, not, ◌&&◌, ⊤, List, Option, Some, None, slice_get, is_none, is_some}
-use Rattle.std.specs.List.{list_all}
-use Rattle.cfg_model.specs.declared.config.Config.{Config}
+-- What a statement of accepted rules has of the statement that was written: each name is the place
+-- of what has that name, with the sort that its use asks for; a literal is its value in the units
+-- of its place; and `cost` is that of an earlier write-off of the same scope.
+use Rattle.std.specs.Prelude.{◌≡◌, ◌≢◌, ℕ, ℤ, pos, Bool, true, false, ◌*◌, ◌^◌, ◌≤◌, List, map}
+use Rattle.std.specs.Prelude.{Option, Some, None, slice_get}
+use Rattle.std.specs.List.{AllPairs, AllZip, Any}
+use Rattle.reg_base.specs.Numbers.{largest_units}
 use Rattle.cfg_model.specs.declared.kind.Field.{Field}
 use Rattle.cfg_model.specs.declared.kind.Kind.{Kind}
+use Rattle.cfg_model.specs.declared.register.Dimension.{Dimension}
 use Rattle.cfg_model.specs.declared.register.Register.{Register}
-use Rattle.rule_lang.specs.Fields.{fits}
-use Rattle.rule_lang.specs.Makes.{suits}
-use Rattle.rule_lang.specs.declared.statement.Act.{Act}
-use Rattle.rule_lang.specs.declared.statement.Act.TheVariants.{Make, WriteOff, Require, Control, Entry}
+use Rattle.rule_text.specs.Fronts.{is_spelt}
+use Rattle.rule_text.specs.declared.token.Literal.{Literal}
+use Rattle.rule_text.specs.declared.token.Spelling.{Spelling}
+use Rattle.rule_text.specs.declared.plain.PlainAmount.{PlainAmount}
+use Rattle.rule_text.specs.declared.plain.PlainBind.{PlainBind}
+use Rattle.rule_text.specs.declared.plain.PlainCode.{PlainCode}
+use Rattle.rule_text.specs.declared.plain.PlainCode.TheVariants.{Text as PlainText}
+use Rattle.rule_text.specs.declared.plain.PlainCode.TheVariants.{Head as PlainHeadCode}
+use Rattle.rule_text.specs.declared.plain.PlainCode.TheVariants.{Line as PlainLineCode}
+use Rattle.rule_text.specs.declared.plain.PlainPart.{PlainPart}
+use Rattle.rule_text.specs.declared.plain.PlainPart.TheVariants.{Number as PlainNumber}
+use Rattle.rule_text.specs.declared.plain.PlainPart.TheVariants.{Head as PlainHead}
+use Rattle.rule_text.specs.declared.plain.PlainPart.TheVariants.{Line as PlainLine}
+use Rattle.rule_text.specs.declared.plain.PlainPart.TheVariants.{Total as PlainTotal}
+use Rattle.rule_text.specs.declared.plain.PlainPart.TheVariants.{Cost as PlainCost}
+use Rattle.rule_text.specs.declared.plain.PlainSide.{PlainSide}
+use Rattle.rule_text.specs.declared.plain.PlainTerm.{PlainTerm}
+use Rattle.rule_text.specs.declared.plain.PlainTo.{PlainTo}
+use Rattle.rule_text.specs.declared.plain.PlainTo.TheVariants.{Code as PlainCodeTo}
+use Rattle.rule_text.specs.declared.plain.PlainTo.TheVariants.{Point as PlainPoint}
 use Rattle.rule_lang.specs.declared.statement.Bind.{Bind}
 use Rattle.rule_lang.specs.declared.statement.BindTo.{BindTo}
 use Rattle.rule_lang.specs.declared.statement.BindTo.TheVariants.{Code, Point}
 use Rattle.rule_lang.specs.declared.statement.CodeTerm.{CodeTerm}
-use Rattle.rule_lang.specs.declared.statement.CodeTerm.TheVariants.{Text, Head as HeadCode, Line as LineCode}
-use Rattle.rule_lang.specs.declared.statement.Cond.{Cond}
-use Rattle.rule_lang.specs.declared.statement.Cond.TheVariants.{Sums, Codes}
+use Rattle.rule_lang.specs.declared.statement.CodeTerm.TheVariants.{Text, Head as HeadCode}
+use Rattle.rule_lang.specs.declared.statement.CodeTerm.TheVariants.{Line as LineCode}
 use Rattle.rule_lang.specs.declared.statement.Part.{Part}
 use Rattle.rule_lang.specs.declared.statement.Part.TheVariants.{Number, Head, Line, Total, Cost}
 use Rattle.rule_lang.specs.declared.statement.Place.{Place}
-use Rattle.rule_lang.specs.declared.statement.Statement.{Statement}
 use Rattle.rule_lang.specs.declared.statement.Sum.{Sum}
+use Rattle.rule_lang.specs.declared.statement.Term.{Term}
+use Rattle.rule_lang.specs.declared.terms.Round.{Round}
 
--- whether there is something that passes the test
-abbrev pub passes : {X : Type 0} → (X → Bool) → Option X → Bool
-passes test None = false
-passes test (Some x) = test x
+-- something that has the name stands at the place, and this holds of it
+abbrev pub IsNamedAt : {X : Type 0} → (X → List ℕ) → List X → Spelling → ℕ → (X → Type 0) → Type 0
+IsNamedAt {X} name_of xs word place P =
+    (x : X) × (slice_get xs place ≡ Some x) × (is_spelt (name_of x) word ≡ true) × P x
 
--- whether something stands at the place that passes the test
-abbrev pub stands_at : {X : Type 0} → List X → ℕ → (X → Bool) → Bool
-stands_at xs place test = passes test (slice_get xs place)
+-- a field of the name with codes stands at the place
+abbrev pub IsCodeField : List Field → Spelling → ℕ → Type 0
+IsCodeField fields word place = IsNamedAt (λ f. f.name) fields word place (λ f. f.scale ≡ None)
 
--- whether a field with codes stands at the place
-abbrev pub is_code_at : List Field → ℕ → Bool
-is_code_at fields place = stands_at fields place (λ f. is_none f.scale)
+-- a field of the name with numbers of the scale stands at the place
+abbrev pub IsNumberField : List Field → ℕ → Spelling → ℕ → Type 0
+IsNumberField fields scale word place =
+    IsNamedAt (λ f. f.name) fields word place (λ f. f.scale ≡ Some scale)
 
--- whether a field with numbers of the scale stands at the place
-abbrev pub is_number_at : List Field → ℕ → ℕ → Bool
-is_number_at fields scale place = stands_at fields place (λ f. fits (Some scale) f.scale)
+-- so many units are the value of the literal at the scale, and not more than the largest number
+pub record IsValueAt (literal : Literal) (scale : ℕ) (units : ℤ) : Type 0 where
+  pub count : ℕ
+  pub is : units ≡ pos count
+  pub value : count * 10 ^ literal.decimals ≡ literal.digits * 10 ^ scale
+  pub within : count ≤ largest_units
 
--- a code, or a field with codes; one of a line only where the statement runs for each
-unfoldable pub is_code : Kind → Bool → CodeTerm → Bool
-is_code kind each (Text code) = true
-is_code kind each (HeadCode place) = is_code_at kind.head place
-is_code kind each (LineCode place) = each && is_code_at kind.lines place
+-- the same code, or a field of the name with codes; one of a line only where the statement runs
+-- for each
+unfoldable pub IsCodeTerm : Kind → Round → PlainCode → CodeTerm → Type 0
+IsCodeTerm kind round (PlainText text) code = code ≡ Text text
+IsCodeTerm kind round (PlainHeadCode word) code =
+    (place : ℕ) × (code ≡ HeadCode place) × IsCodeField kind.head word place
+IsCodeTerm kind round (PlainLineCode word) code =
+    (place : ℕ) × (code ≡ LineCode place) × IsCodeField kind.lines word place × (round.each ≡ true)
 
--- units, or a field with numbers of the scale; one of a line only where the statement runs for
--- each, and its total everywhere
-unfoldable pub is_part : Kind → Bool → ℕ → Part → Bool
-is_part kind each scale (Number units) = true
-is_part kind each scale (Head place) = is_number_at kind.head scale place
-is_part kind each scale (Line place) = each && is_number_at kind.lines scale place
-is_part kind each scale (Total place) = is_number_at kind.lines scale place
-is_part kind each scale Cost = true
+-- a literal's units, or a field of the name with numbers of the scale; one of a line only where
+-- the statement runs for each, and its total everywhere; `cost` behind a write-off of the scale
+unfoldable pub IsPart : Kind → Round → ℕ → PlainPart → Part → Type 0
+IsPart kind round scale (PlainNumber literal) part =
+    (units : ℤ) × (part ≡ Number units) × IsValueAt literal scale units
+IsPart kind round scale (PlainHead word) part =
+    (place : ℕ) × (part ≡ Head place) × IsNumberField kind.head scale word place
+IsPart kind round scale (PlainLine word) part =
+    (place : ℕ) × (part ≡ Line place) × IsNumberField kind.lines scale word place
+    × (round.each ≡ true)
+IsPart kind round scale (PlainTotal word) part =
+    (place : ℕ) × (part ≡ Total place) × IsNumberField kind.lines scale word place
+IsPart kind round scale PlainCost part = (part ≡ Cost) × (round.cost ≡ Some scale)
 
--- a sum of which each part has the scale
-abbrev pub is_sum : Kind → Bool → ℕ → Sum → Bool
-is_sum kind each scale sum = list_all (λ t. is_part kind each scale t.part) sum.terms
+-- the same marks around a part of the scale
+pub record IsTerm (kind : Kind) (round : Round) (scale : ℕ) (plain : PlainTerm) (term : Term)
+    : Type 0 where
+  pub minus : term.minus ≡ plain.minus
+  pub negative : term.negative ≡ plain.negative
+  pub part : IsPart kind round scale plain.part term.part
+
+-- a sum, each of whose terms has the scale
+abbrev pub IsSum : Kind → Round → ℕ → List PlainTerm → Sum → Type 0
+IsSum kind round scale plain sum = AllZip (IsTerm kind round scale) plain sum.terms
 
 -- the document's point for a lot, and a code for every other dimension
-unfoldable pub is_value : Kind → Bool → Bool → BindTo → Bool
-is_value kind each lot Point = lot
-is_value kind each lot (Code code) = not lot && is_code kind each code
+unfoldable pub IsValue : Kind → Round → Bool → PlainTo → BindTo → Type 0
+IsValue kind round lot PlainPoint to = (to ≡ Point) × (lot ≡ true)
+IsValue kind round lot (PlainCodeTo plain) to =
+    (code : CodeTerm) × (to ≡ Code code) × IsCodeTerm kind round plain code × (lot ≡ false)
 
 -- a dimension of the register with a value of its sort
-abbrev pub is_bind : Kind → Bool → Register → Bind → Bool
-is_bind kind each register bind =
-    stands_at register.dimensions bind.dimension (λ d. is_value kind each d.lot bind.to)
+abbrev pub IsBind : Kind → Round → Register → PlainBind → Bind → Type 0
+IsBind kind round register plain bind =
+    IsNamedAt (λ d. d.name) register.dimensions plain.dimension bind.dimension
+    (λ d. IsValue kind round d.lot plain.to bind.to)
 
 -- a resource of the register with a sum of its scale
-abbrev pub is_amount : Kind → Bool → Register → ℕ → Sum → Bool
-is_amount kind each register place sum =
-    stands_at register.resources place (λ r. is_sum kind each r.scale sum)
+abbrev pub IsAmount : Kind → Round → Register → PlainAmount → ℕ × Sum → Type 0
+IsAmount kind round register plain amount =
+    IsNamedAt (λ r. r.name) register.resources plain.resource amount.0
+    (λ r. IsSum kind round r.scale plain.sum amount.1)
+
+-- no place stands twice
+abbrev pub AreDifferent : List ℕ → Type 0
+AreDifferent places = AllPairs (λ a b. a ≢ b) places
+
+-- a dimension of this one's name has a value
+abbrev pub HasValue : Register → List Bind → Dimension → Type 0
+HasValue register binds dimension = Any (λ b. (found : Dimension)
+    × (slice_get register.dimensions b.dimension ≡ Some found)
+    × (found.name ≡ dimension.name)) binds
+
+-- the dimension at the place of the bind is no lot
+abbrev pub IsNoLot : Register → Bind → Type 0
+IsNoLot register bind = (d : Dimension) × (slice_get register.dimensions bind.dimension ≡ Some d)
+    × (d.lot ≡ false)
+
+-- each bind is one of the register, and no dimension has two values
+pub record AreBinds (kind : Kind) (round : Round) (register : Register) (plain : List PlainBind)
+    (binds : List Bind) : Type 0 where
+  pub each : AllZip (IsBind kind round register) plain binds
+  pub different : AreDifferent (map (λ b. b.dimension) binds)
 
 -- an account with its extras, or none
-unfoldable pub is_side : Kind → Bool → Option Place → Bool
-is_side kind each None = true
-is_side kind each (Some side) =
-    is_code kind each side.account && list_all (is_code kind each) side.extras
-
--- an act on a register or a ledger that is there, of the sort that its verb asks for
-unfoldable pub is_act : Config → Kind → Bool → Act → Bool
-is_act config kind each (Make verb place binds sums) =
-    stands_at config.registers place (λ r. suits verb r.balance
-    && (list_all (is_bind kind each r) binds
-    && list_all (λ s. is_amount kind each r s.0 s.1) sums))
-is_act config kind each (WriteOff fifo place binds quantity wanted amount) =
-    stands_at config.registers place (λ r. (r.balance && is_some (slice_get r.resources amount))
-    && (list_all (is_bind kind each r) binds && is_amount kind each r quantity wanted))
-is_act config kind each (Require place binds resource least code) =
-    stands_at config.registers place (λ r. r.balance
-    && (list_all (is_bind kind each r) binds && is_amount kind each r resource least))
-is_act config kind each (Control place resource) =
-    stands_at config.registers place (λ r. r.balance && is_some (slice_get r.resources resource))
-is_act config kind each (Entry place debit credit amount) =
-    stands_at config.ledgers place (λ c. (is_side kind each debit && is_side kind each credit)
-    && is_sum kind each c.scale amount)
-
--- a condition on two codes, or on two sums of one scale
-unfoldable pub IsCond : Kind → Bool → Option Cond → Type 0
-IsCond kind each None = ⊤
-IsCond kind each (Some (Codes left equal right)) =
-    (is_code kind each left ≡ true) × (is_code kind each right ≡ true)
-IsCond kind each (Some (Sums left test right)) =
-    (scale : ℕ) × (is_sum kind each scale left ≡ true) × (is_sum kind each scale right ≡ true)
-
--- each place that the statement names is there, with the sort and the scale that are asked for
-pub record IsResolved (config : Config) (kind : Kind) (statement : Statement) : Type 0 where
-  pub act : is_act config kind statement.each statement.act ≡ true
-  pub when : IsCond kind statement.each statement.when
+unfoldable pub IsResolvedSide : Kind → Round → Option PlainSide → Option Place → Type 0
+IsResolvedSide kind round None side = side ≡ None
+IsResolvedSide kind round (Some plain) side = (place : Place) × (side ≡ Some place)
+    × IsCodeTerm kind round plain.account place.account
+    × AllZip (IsCodeTerm kind round) plain.extras place.extras

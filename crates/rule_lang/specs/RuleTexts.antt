@@ -1,16 +1,19 @@
 -- The canonical text of the statements of a type, each on a line of its own.
-use Rattle.std.specs.Prelude.{ℕ, codes, Bool, true, false, List, [], ◌∷◌, ◌++◌, Option, Some, None, option_map, slice_get}
+use Rattle.std.specs.Prelude.{ℕ, codes, Bool, true, false, List, [], ◌∷◌, ◌++◌, Option, Some, None}
+use Rattle.std.specs.Prelude.{slice_get}
 use Rattle.cfg_model.specs.declared.config.Config.{Config}
 use Rattle.cfg_model.specs.declared.kind.Kind.{Kind}
 use Rattle.cfg_model.specs.declared.ledger.Chart.{Chart}
 use Rattle.cfg_model.specs.declared.register.Register.{Register}
 use Rattle.rule_text.specs.declared.plain.Verb.{Verb}
 use Rattle.rule_text.specs.declared.plain.Verb.TheVariants.{Receipt, Expense, Turn}
-use Rattle.rule_lang.specs.Costs.{costs_after}
-use Rattle.rule_lang.specs.TermTexts.{text_if, name_at, listed, code_text, terms_text, when_text}
+use Rattle.rule_lang.specs.Costs.{resource_scale, costs_after}
+use Rattle.rule_lang.specs.TermTexts.{text_if, name_of_place, list_text, code_text, terms_text}
+use Rattle.rule_lang.specs.TermTexts.{when_text}
 use Rattle.rule_lang.specs.declared.costs.Costs.{Costs}
 use Rattle.rule_lang.specs.declared.statement.Act.{Act}
-use Rattle.rule_lang.specs.declared.statement.Act.TheVariants.{Make, WriteOff, Require, Control, Entry}
+use Rattle.rule_lang.specs.declared.statement.Act.TheVariants.{Make, WriteOff, Require, Control}
+use Rattle.rule_lang.specs.declared.statement.Act.TheVariants.{Entry}
 use Rattle.rule_lang.specs.declared.statement.Bind.{Bind}
 use Rattle.rule_lang.specs.declared.statement.BindTo.{BindTo}
 use Rattle.rule_lang.specs.declared.statement.BindTo.TheVariants.{Code, Point}
@@ -27,27 +30,23 @@ to_text kind (Code code) = code_text kind code
 -- a dimension with its value
 unfoldable pub bind_text : Kind → Register → Bind → List ℕ
 bind_text kind register bind =
-    name_at (λ d. d.name) register.dimensions bind.dimension
+    name_of_place (λ d. d.name) register.dimensions bind.dimension
     ++ (codes " = " ++ to_text kind bind.to)
 
 -- dimensions with their values, behind commas
 unfoldable pub binds_text : Kind → Register → List Bind → List ℕ
-binds_text kind register binds = listed (λ _. codes ", ") (bind_text kind register) binds
-
--- the scale of the resource at a place
-abbrev pub resource_scale : Register → ℕ → Option ℕ
-resource_scale register place = option_map (λ r. r.scale) (slice_get register.resources place)
+binds_text kind register binds = list_text (λ _. codes ", ") (bind_text kind register) binds
 
 -- a resource with its number
 unfoldable pub amount_text : Kind → Register → ℕ → List Term → List ℕ
 amount_text kind register place terms =
-    name_at (λ r. r.name) register.resources place
+    name_of_place (λ r. r.name) register.resources place
     ++ (codes " = " ++ terms_text kind (resource_scale register place) terms)
 
 -- resources with their numbers, behind commas
 unfoldable pub amounts_text : Kind → Register → List (ℕ × Sum) → List ℕ
 amounts_text kind register sums =
-    listed (λ _. codes ", ") (λ s. amount_text kind register s.0 s.1.terms) sums
+    list_text (λ _. codes ", ") (λ s. amount_text kind register s.0 s.1.terms) sums
 
 -- the word of a verb
 abbrev pub verb_text : Verb → List ℕ
@@ -71,26 +70,26 @@ unfoldable pub write_off_text : Kind → Bool → List Bind → ℕ → Sum → 
 write_off_text kind fifo binds quantity wanted amount register =
     order_text fifo ++ (codes " " ++ (register.name ++ (codes "(" ++ (binds_text kind register binds
     ++ (codes "; " ++ (amount_text kind register quantity wanted.terms ++ (codes ", "
-    ++ (name_at (λ r. r.name) register.resources amount ++ codes ")"))))))))
+    ++ (name_of_place (λ r. r.name) register.resources amount ++ codes ")"))))))))
 
 -- require
 unfoldable pub require_text : Kind → List Bind → ℕ → Sum → List ℕ → Register → List ℕ
 require_text kind binds resource least code register =
     codes "require " ++ (register.name ++ (codes "(" ++ (binds_text kind register binds
-    ++ (codes "; " ++ (name_at (λ r. r.name) register.resources resource ++ (codes ") >= "
+    ++ (codes "; " ++ (name_of_place (λ r. r.name) register.resources resource ++ (codes ") >= "
     ++ (terms_text kind (resource_scale register resource) least.terms ++ (codes " code \""
     ++ (code ++ codes "\"")))))))))
 
 -- control
 unfoldable pub control_text : ℕ → Register → List ℕ
 control_text resource register = codes "control "
-    ++ (register.name ++ (codes " " ++ name_at (λ r. r.name) register.resources resource))
+    ++ (register.name ++ (codes " " ++ name_of_place (λ r. r.name) register.resources resource))
 
 -- `none`, or an account with its extras
 unfoldable pub side_text : Kind → Option Place → List ℕ
 side_text kind None = codes "none"
 side_text kind (Some side) = code_text kind side.account
-    ++ (codes "(" ++ (listed (λ _. codes ", ") (code_text kind) side.extras ++ codes ")"))
+    ++ (codes "(" ++ (list_text (λ _. codes ", ") (code_text kind) side.extras ++ codes ")"))
 
 -- entry
 unfoldable pub entry_text : Kind → Option Place → Option Place → Sum → Chart → List ℕ
@@ -134,10 +133,10 @@ unfoldable pub statements_text : Config → Kind → Costs → List Statement �
 statements_text config kind costs [] = []
 statements_text config kind costs (statement ∷ statements) =
     statement_text config kind (cost_of costs statement.each) statement
-    ++ statements_text config kind (costs_after config costs statement.each statement.act) statements
+    ++ statements_text config kind (costs_after config costs statement.each statement.act)
+    statements
 
--- the statements of the type at a place
-unfoldable pub rules_text : Config → ℕ → List Statement → List ℕ
-rules_text config place statements =
-    text_if (λ kind. statements_text config kind (record { once = None; each = None }) statements)
-    (slice_get config.kinds place)
+-- the statements of the type, no write-off being before the first
+unfoldable pub rules_text : Config → Kind → List Statement → List ℕ
+rules_text config kind statements =
+    statements_text config kind (record { once = None; each = None }) statements

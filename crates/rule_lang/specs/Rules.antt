@@ -1,21 +1,28 @@
 -- The rules of a configuration: the statements of each document type, or the first fault.
-use Rattle.std.specs.Prelude.{ℕ, Bool, true, false, not, ◌+◌, ◌||◌, nat_lt, List, [], ◌∷◌, Option, Some, None, is_some, Result, Ok, Err}
+use Rattle.std.specs.Prelude.{ℕ, Bool, true, false, not, ◌+◌, ◌||◌, nat_lt, List, [], ◌∷◌, Option}
+use Rattle.std.specs.Prelude.{Some, None, is_some, Result, Ok, Err}
 use Rattle.reg_base.specs.Results.{◌>>=◌, unless}
 use Rattle.cfg_model.specs.declared.config.Config.{Config}
 use Rattle.cfg_model.specs.declared.kind.Kind.{Kind}
 use Rattle.rule_text.specs.Sentences.{statements_of}
 use Rattle.rule_text.specs.declared.fault.TextFault.{TextFault}
-use Rattle.rule_text.specs.declared.fault.TextFault.TheVariants.{Syntax as NoSyntax, Memory as NoMemory}
+use Rattle.rule_text.specs.declared.fault.TextFault.TheVariants.{Syntax as NoSyntax}
+use Rattle.rule_text.specs.declared.fault.TextFault.TheVariants.{Memory as NoMemory}
 use Rattle.rule_text.specs.declared.plain.PlainAct.{PlainAct}
-use Rattle.rule_text.specs.declared.plain.PlainAct.TheVariants.{Make as PlainMake, WriteOff as PlainWriteOff, Require as PlainRequire, Control as PlainControl, Entry as PlainEntry}
+use Rattle.rule_text.specs.declared.plain.PlainAct.TheVariants.{Make as PlainMake}
+use Rattle.rule_text.specs.declared.plain.PlainAct.TheVariants.{WriteOff as PlainWriteOff}
+use Rattle.rule_text.specs.declared.plain.PlainAct.TheVariants.{Require as PlainRequire}
+use Rattle.rule_text.specs.declared.plain.PlainAct.TheVariants.{Control as PlainControl}
+use Rattle.rule_text.specs.declared.plain.PlainAct.TheVariants.{Entry as PlainEntry}
 use Rattle.rule_text.specs.declared.plain.PlainCond.{PlainCond}
 use Rattle.rule_text.specs.declared.plain.PlainStatement.{PlainStatement}
 use Rattle.rule_lang.specs.Least.{Checked, both, beside}
-use Rattle.rule_lang.specs.Acts.{act_of}
-use Rattle.rule_lang.specs.Conditions.{cond_of}
+use Rattle.rule_lang.specs.Acts.{resolved_act}
+use Rattle.rule_lang.specs.Conditions.{resolved_cond}
 use Rattle.rule_lang.specs.declared.fault.RuleFault.{RuleFault}
 use Rattle.rule_lang.specs.declared.fault.RuleFault.TheVariants.{Wrong, Memory}
-use Rattle.rule_lang.specs.declared.fault.RuleWhy.TheVariants.{Syntax, WrongScope, TooMany, SequenceUnbound}
+use Rattle.rule_lang.specs.declared.fault.RuleWhy.TheVariants.{Syntax, WrongScope, TooMany}
+use Rattle.rule_lang.specs.declared.fault.RuleWhy.TheVariants.{SequenceUnbound}
 use Rattle.rule_lang.specs.declared.costs.Costs.{Costs}
 use Rattle.rule_lang.specs.declared.terms.Round.{Round}
 use Rattle.rule_lang.specs.declared.statement.Act.{Act}
@@ -43,10 +50,10 @@ scope_fits plain =
     WrongScope
 
 -- a condition, where there is one
-unfoldable pub when_of : Kind → Round → Option PlainCond → Checked (Option Cond)
-when_of kind round None = Ok None
-when_of kind round (Some plain) = do
-  cond ← cond_of kind round plain
+unfoldable pub resolved_when : Kind → Round → Option PlainCond → Checked (Option Cond)
+resolved_when kind round None = Ok None
+resolved_when kind round (Some plain) = do
+  cond ← resolved_cond kind round plain
   Ok (Some cond)
 
 -- not too many are before, and the sequences are kept
@@ -56,36 +63,37 @@ last_fits config kind before act = do
   unless (keeps_sequences config kind act) SequenceUnbound
 
 -- a statement of its parts, that so many are before
-unfoldable pub finished : Config → Kind → ℕ → Bool → Checked (Act × Option Cond)
+unfoldable pub statement_if_fit : Config → Kind → ℕ → Bool → Checked (Act × Option Cond)
     → Checked Statement
-finished config kind before each parts = do
+statement_if_fit config kind before each parts = do
   p ← parts
   _ ← last_fits config kind before p.0
   Ok (record { each = each; act = p.0; when = p.1 })
 
 -- a statement in its round, that so many are before
-unfoldable pub statement_in : Config → Kind → Round → ℕ → PlainStatement → Checked Statement
-statement_in config kind round before plain =
-    finished config kind before round.each (beside (scope_fits plain)
-    (both (act_of config kind round plain.act) (when_of kind round plain.when)))
+unfoldable pub resolved_statement_in : Config → Kind → Round → ℕ → PlainStatement
+    → Checked Statement
+resolved_statement_in config kind round before plain =
+    statement_if_fit config kind before round.each (beside (scope_fits plain)
+    (both (resolved_act config kind round plain.act) (resolved_when kind round plain.when)))
 
 -- a statement that so many are before, all of which are right: of the reasons against it the one
 -- of the least number
-unfoldable pub statement_of : Config → Kind → Costs → ℕ → PlainStatement → Checked Statement
-statement_of config kind costs before plain =
-    statement_in config kind (round_of costs plain.scope) before plain
+unfoldable pub resolved_statement : Config → Kind → Costs → ℕ → PlainStatement → Checked Statement
+resolved_statement config kind costs before plain =
+    resolved_statement_in config kind (round_of costs plain.scope) before plain
 
 -- the fault of a type at a place
-abbrev pub fault_at : {X : Type 0} → Kind → ℕ → Checked X → Result X RuleFault
-fault_at kind place (Ok x) = Ok x
-fault_at kind place (Err why) = Err (Wrong kind.name place why)
+abbrev pub fault_in_kind : {X : Type 0} → Kind → ℕ → Checked X → Result X RuleFault
+fault_in_kind kind place (Ok x) = Ok x
+fault_in_kind kind place (Err why) = Err (Wrong kind.name place why)
 
 -- statements that so many are before; the first that is wrong is told by its first byte
 unfoldable pub statements_from : Config → Kind → Costs → ℕ → List PlainStatement
     → Result (List Statement) RuleFault
 statements_from config kind costs before [] = Ok []
 statements_from config kind costs before (plain ∷ plains) = do
-  statement ← fault_at kind plain.place (statement_of config kind costs before plain)
+  statement ← fault_in_kind kind plain.place (resolved_statement config kind costs before plain)
   statements ← statements_from config kind
       (costs_after config costs statement.each statement.act) (before + 1) plains
   Ok (statement ∷ statements)

@@ -1,5 +1,6 @@
 -- What a sequence asks of the statements of its document types.
-use Rattle.std.specs.Prelude.{ℕ, Bool, true, false, not, ◌&&◌, ◌||◌, List, Option, Some, None, slice_get, if◌then◌else◌}
+use Rattle.std.specs.Prelude.{ℕ, Bool, true, false, not, ◌&&◌, ◌||◌, List, Option, Some, None}
+use Rattle.std.specs.Prelude.{slice_get, if◌then◌else◌}
 use Rattle.std.specs.List.{list_any, list_all}
 use Rattle.std.specs.Str.{bytes_eq}
 use Rattle.cfg_model.specs.declared.config.Config.{Config}
@@ -9,7 +10,8 @@ use Rattle.cfg_model.specs.declared.register.Dimension.{Dimension}
 use Rattle.cfg_model.specs.declared.register.Register.{Register}
 use Rattle.cfg_model.specs.declared.sequence.Sequence.{Sequence}
 use Rattle.rule_lang.specs.declared.statement.Act.{Act}
-use Rattle.rule_lang.specs.declared.statement.Act.TheVariants.{Make, WriteOff, Require, Control, Entry}
+use Rattle.rule_lang.specs.declared.statement.Act.TheVariants.{Make, WriteOff, Require, Control}
+use Rattle.rule_lang.specs.declared.statement.Act.TheVariants.{Entry}
 use Rattle.rule_lang.specs.declared.statement.Bind.{Bind}
 use Rattle.rule_lang.specs.declared.statement.BindTo.{BindTo}
 use Rattle.rule_lang.specs.declared.statement.BindTo.TheVariants.{Code, Point}
@@ -45,15 +47,15 @@ binds_head register kind binds name =
     && is_head_field kind.head name b.to) binds
 
 -- whether each of the names is bound so
-abbrev pub all_bound : Register → Kind → List Bind → List (List ℕ) → Bool
-all_bound register kind binds names = list_all (binds_head register kind binds) names
+abbrev pub binds_each_head : Register → Kind → List Bind → List (List ℕ) → Bool
+binds_each_head register kind binds names = list_all (binds_head register kind binds) names
 
 -- a statement on a register: where it affects the sequence, each of the sequence's dimensions is
 -- bound to the head; elsewhere it may not read
 unfoldable pub sequence_fits : Register → Kind → List Bind → Bool → Sequence → Bool
 sequence_fits register kind binds reads sequence =
     if is_among sequence.registers register.name
-    then all_bound register kind binds sequence.dimensions
+    then binds_each_head register kind binds sequence.dimensions
     else not reads
 
 -- the sequence is kept, where the type stands in it
@@ -63,7 +65,8 @@ kept_by register kind binds reads sequence =
 
 -- whether each of the sequences is kept
 abbrev pub all_kept : Register → Kind → List Bind → Bool → List Sequence → Bool
-all_kept register kind binds reads sequences = list_all (kept_by register kind binds reads) sequences
+all_kept register kind binds reads sequences = list_all (kept_by register kind binds reads)
+    sequences
 
 -- the sequences that the type stands in are kept by a statement on this register
 unfoldable pub sequences_fit : Config → Kind → ℕ → List Bind → Bool → Bool

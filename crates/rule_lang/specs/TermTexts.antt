@@ -1,13 +1,16 @@
 -- The canonical text of codes, sums and conditions.
-use Rattle.std.specs.Prelude.{ℕ, ℤ, codes, Bool, true, false, if◌then◌else◌, List, [], ◌∷◌, ◌++◌, Option, Some, None, option_and_then, slice_get}
+use Rattle.std.specs.Prelude.{ℕ, ℤ, codes, Bool, true, false, if◌then◌else◌, List, [], ◌∷◌, ◌++◌}
+use Rattle.std.specs.Prelude.{Option, Some, None, option_and_then, slice_get}
 use Rattle.std.specs.List.{flat_map}
 use Rattle.reg_base.specs.Numbers.{sum_text}
 use Rattle.cfg_model.specs.declared.kind.Field.{Field}
 use Rattle.cfg_model.specs.declared.kind.Kind.{Kind}
 use Rattle.rule_text.specs.declared.plain.Test.{Test}
-use Rattle.rule_text.specs.declared.plain.Test.TheVariants.{Less, AtMost, Equal, AtLeast, Greater, Differs}
+use Rattle.rule_text.specs.declared.plain.Test.TheVariants.{Less, AtMost, Equal, AtLeast, Greater}
+use Rattle.rule_text.specs.declared.plain.Test.TheVariants.{Differs}
 use Rattle.rule_lang.specs.declared.statement.CodeTerm.{CodeTerm}
-use Rattle.rule_lang.specs.declared.statement.CodeTerm.TheVariants.{Text, Head as HeadCode, Line as LineCode}
+use Rattle.rule_lang.specs.declared.statement.CodeTerm.TheVariants.{Text, Head as HeadCode}
+use Rattle.rule_lang.specs.declared.statement.CodeTerm.TheVariants.{Line as LineCode}
 use Rattle.rule_lang.specs.declared.statement.Cond.{Cond}
 use Rattle.rule_lang.specs.declared.statement.Cond.TheVariants.{Sums, Codes}
 use Rattle.rule_lang.specs.declared.statement.Part.{Part}
@@ -20,30 +23,30 @@ text_if text None = []
 text_if text (Some x) = text x
 
 -- the name of what stands at a place
-abbrev pub name_at : {X : Type 0} → (X → List ℕ) → List X → ℕ → List ℕ
-name_at name_of xs place = text_if name_of (slice_get xs place)
+abbrev pub name_of_place : {X : Type 0} → (X → List ℕ) → List X → ℕ → List ℕ
+name_of_place name_of xs place = text_if name_of (slice_get xs place)
 
 -- the first, and each other one behind what joins it
-abbrev pub listed : {X : Type 0} → (X → List ℕ) → (X → List ℕ) → List X → List ℕ
-listed joint text [] = []
-listed joint text (x ∷ xs) = text x ++ flat_map (λ y. joint y ++ text y) xs
+abbrev pub list_text : {X : Type 0} → (X → List ℕ) → (X → List ℕ) → List X → List ℕ
+list_text joint text [] = []
+list_text joint text (x ∷ xs) = text x ++ flat_map (λ y. joint y ++ text y) xs
 
 -- a code between quotes, or a field
 unfoldable pub code_text : Kind → CodeTerm → List ℕ
 code_text kind (Text code) = codes "\"" ++ (code ++ codes "\"")
-code_text kind (HeadCode place) = codes "head." ++ name_at (λ f. f.name) kind.head place
-code_text kind (LineCode place) = codes "line." ++ name_at (λ f. f.name) kind.lines place
+code_text kind (HeadCode place) = codes "head." ++ name_of_place (λ f. f.name) kind.head place
+code_text kind (LineCode place) = codes "line." ++ name_of_place (λ f. f.name) kind.lines place
 
 -- units with the decimals of their scale
-abbrev pub units_text : Option ℕ → ℤ → List ℕ
-units_text scale units = text_if (sum_text units) scale
+abbrev pub units_at_scale_text : Option ℕ → ℤ → List ℕ
+units_at_scale_text scale units = text_if (sum_text units) scale
 
 -- a number of the scale, a field or `cost`
 unfoldable pub part_text : Kind → Option ℕ → Part → List ℕ
-part_text kind scale (Number units) = units_text scale units
-part_text kind scale (Head place) = codes "head." ++ name_at (λ f. f.name) kind.head place
-part_text kind scale (Line place) = codes "line." ++ name_at (λ f. f.name) kind.lines place
-part_text kind scale (Total place) = codes "total." ++ name_at (λ f. f.name) kind.lines place
+part_text kind scale (Number units) = units_at_scale_text scale units
+part_text kind scale (Head place) = codes "head." ++ name_of_place (λ f. f.name) kind.head place
+part_text kind scale (Line place) = codes "line." ++ name_of_place (λ f. f.name) kind.lines place
+part_text kind scale (Total place) = codes "total." ++ name_of_place (λ f. f.name) kind.lines place
 part_text kind scale Cost = codes "cost"
 
 -- a part behind its own sign
@@ -58,7 +61,7 @@ joint_text false = codes " + "
 
 -- a sum with the mark before each of its terms but the first
 unfoldable pub terms_text : Kind → Option ℕ → List Term → List ℕ
-terms_text kind scale terms = listed (λ t. joint_text t.minus) (term_text kind scale) terms
+terms_text kind scale terms = list_text (λ t. joint_text t.minus) (term_text kind scale) terms
 
 -- the mark of a test
 unfoldable pub test_text : Test → List ℕ

@@ -5,16 +5,23 @@ use Rattle.cfg_model.specs.declared.kind.Kind.{Kind}
 use Rattle.rule_text.specs.declared.token.Literal.{Literal}
 use Rattle.rule_text.specs.declared.token.Spelling.{Spelling}
 use Rattle.rule_text.specs.declared.plain.PlainCode.{PlainCode}
-use Rattle.rule_text.specs.declared.plain.PlainCode.TheVariants.{Text as PlainText, Head as PlainHeadCode, Line as PlainLineCode}
+use Rattle.rule_text.specs.declared.plain.PlainCode.TheVariants.{Text as PlainText}
+use Rattle.rule_text.specs.declared.plain.PlainCode.TheVariants.{Head as PlainHeadCode}
+use Rattle.rule_text.specs.declared.plain.PlainCode.TheVariants.{Line as PlainLineCode}
 use Rattle.rule_text.specs.declared.plain.PlainPart.{PlainPart}
-use Rattle.rule_text.specs.declared.plain.PlainPart.TheVariants.{Number as PlainNumber, Head as PlainHead, Line as PlainLine, Total as PlainTotal, Cost as PlainCost}
+use Rattle.rule_text.specs.declared.plain.PlainPart.TheVariants.{Number as PlainNumber}
+use Rattle.rule_text.specs.declared.plain.PlainPart.TheVariants.{Head as PlainHead}
+use Rattle.rule_text.specs.declared.plain.PlainPart.TheVariants.{Line as PlainLine}
+use Rattle.rule_text.specs.declared.plain.PlainPart.TheVariants.{Total as PlainTotal}
+use Rattle.rule_text.specs.declared.plain.PlainPart.TheVariants.{Cost as PlainCost}
 use Rattle.rule_text.specs.declared.plain.PlainTerm.{PlainTerm}
-use Rattle.rule_lang.specs.Least.{Checked, each}
-use Rattle.rule_lang.specs.Fields.{fits, number_field, code_field, units_at}
+use Rattle.rule_lang.specs.Least.{Checked, each_or_least}
+use Rattle.rule_lang.specs.Fields.{fits, resolved_number_field, resolved_code_field, units_at}
 use Rattle.rule_lang.specs.declared.fault.RuleWhy.TheVariants.{WrongType, WrongScope}
 use Rattle.rule_lang.specs.declared.terms.Round.{Round}
 use Rattle.rule_lang.specs.declared.statement.CodeTerm.{CodeTerm}
-use Rattle.rule_lang.specs.declared.statement.CodeTerm.TheVariants.{Text, Head as HeadCode, Line as LineCode}
+use Rattle.rule_lang.specs.declared.statement.CodeTerm.TheVariants.{Text, Head as HeadCode}
+use Rattle.rule_lang.specs.declared.statement.CodeTerm.TheVariants.{Line as LineCode}
 use Rattle.rule_lang.specs.declared.statement.Part.{Part}
 use Rattle.rule_lang.specs.declared.statement.Part.TheVariants.{Number, Head, Line, Total, Cost}
 use Rattle.rule_lang.specs.declared.statement.Sum.{Sum}
@@ -30,7 +37,7 @@ literal_at (Some scale) literal = do
 -- a field of lines, which a statement for each line may name
 unfoldable pub line_part : Kind → Round → Option ℕ → Spelling → Checked Part
 line_part kind round asked spelling = do
-  place ← number_field kind.lines asked spelling
+  place ← resolved_number_field kind.lines asked spelling
   _ ← unless round.each WrongScope
   Ok (Line place)
 
@@ -42,40 +49,40 @@ cost_part round asked = do
   Ok Cost
 
 -- a part where a number of the scale that is asked for stands, if one is
-unfoldable pub part_of : Kind → Round → Option ℕ → PlainPart → Checked Part
-part_of kind round asked (PlainNumber literal) = literal_at asked literal
-part_of kind round asked (PlainHead spelling) = do
-  place ← number_field kind.head asked spelling
+unfoldable pub resolved_part : Kind → Round → Option ℕ → PlainPart → Checked Part
+resolved_part kind round asked (PlainNumber literal) = literal_at asked literal
+resolved_part kind round asked (PlainHead spelling) = do
+  place ← resolved_number_field kind.head asked spelling
   Ok (Head place)
-part_of kind round asked (PlainLine spelling) = line_part kind round asked spelling
-part_of kind round asked (PlainTotal spelling) = do
-  place ← number_field kind.lines asked spelling
+resolved_part kind round asked (PlainLine spelling) = line_part kind round asked spelling
+resolved_part kind round asked (PlainTotal spelling) = do
+  place ← resolved_number_field kind.lines asked spelling
   Ok (Total place)
-part_of kind round asked PlainCost = cost_part round asked
+resolved_part kind round asked PlainCost = cost_part round asked
 
 -- a term
-unfoldable pub term_of : Kind → Round → Option ℕ → PlainTerm → Checked Term
-term_of kind round asked plain = do
-  part ← part_of kind round asked plain.part
+unfoldable pub resolved_term : Kind → Round → Option ℕ → PlainTerm → Checked Term
+resolved_term kind round asked plain = do
+  part ← resolved_part kind round asked plain.part
   Ok (record { minus = plain.minus; negative = plain.negative; part = part })
 
 -- a sum, all of whose terms have one scale
-unfoldable pub sum_of : Kind → Round → Option ℕ → List PlainTerm → Checked Sum
-sum_of kind round asked plain = do
-  terms ← each (term_of kind round asked) plain
+unfoldable pub resolved_sum : Kind → Round → Option ℕ → List PlainTerm → Checked Sum
+resolved_sum kind round asked plain = do
+  terms ← each_or_least (resolved_term kind round asked) plain
   Ok (record { terms = terms })
 
 -- a field of lines with a code
 unfoldable pub line_code : Kind → Round → Spelling → Checked CodeTerm
 line_code kind round spelling = do
-  place ← code_field kind.lines spelling
+  place ← resolved_code_field kind.lines spelling
   _ ← unless round.each WrongScope
   Ok (LineCode place)
 
 -- a code, or a field that has one
-unfoldable pub code_of : Kind → Round → PlainCode → Checked CodeTerm
-code_of kind round (PlainText code) = Ok (Text code)
-code_of kind round (PlainHeadCode spelling) = do
-  place ← code_field kind.head spelling
+unfoldable pub resolved_code : Kind → Round → PlainCode → Checked CodeTerm
+resolved_code kind round (PlainText code) = Ok (Text code)
+resolved_code kind round (PlainHeadCode spelling) = do
+  place ← resolved_code_field kind.head spelling
   Ok (HeadCode place)
-code_of kind round (PlainLineCode spelling) = line_code kind round spelling
+resolved_code kind round (PlainLineCode spelling) = line_code kind round spelling

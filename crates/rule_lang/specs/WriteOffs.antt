@@ -9,7 +9,7 @@ use Rattle.rule_text.specs.declared.token.Spelling.{Spelling}
 use Rattle.rule_text.specs.declared.plain.PlainAmount.{PlainAmount}
 use Rattle.rule_text.specs.declared.plain.PlainBind.{PlainBind}
 use Rattle.rule_text.specs.declared.plain.Target.{Target}
-use Rattle.rule_lang.specs.Least.{Checked, both, beside, each}
+use Rattle.rule_lang.specs.Least.{Checked, both, beside, each_or_least}
 use Rattle.rule_lang.specs.Fields.{place_of, item_at}
 use Rattle.rule_lang.specs.declared.fault.RuleWhy.TheVariants.{Unbound, TwiceBound, WrongRegister}
 use Rattle.rule_lang.specs.declared.terms.Round.{Round}
@@ -17,7 +17,8 @@ use Rattle.rule_lang.specs.declared.statement.Act.{Act}
 use Rattle.rule_lang.specs.declared.statement.Act.TheVariants.{WriteOff}
 use Rattle.rule_lang.specs.declared.statement.Bind.{Bind}
 use Rattle.rule_lang.specs.declared.statement.Sum.{Sum}
-use Rattle.rule_lang.specs.Binds.{bind_of, amount_of, is_bound, all_bound, same_name, none_twice}
+use Rattle.rule_lang.specs.Binds.{resolved_bind, resolved_amount, is_bound, binds_each_dimension}
+use Rattle.rule_lang.specs.Binds.{same_name, none_twice}
 
 -- whether a lot has a value
 abbrev pub lot_bound : Register → List PlainBind → Bool
@@ -34,7 +35,7 @@ order_fits true register binds =
 unfoldable pub write_off_fits : Bool → Register → List PlainBind → Spelling → Spelling
     → Checked (Unit {0})
 write_off_fits fifo register binds quantity cost = do
-  _ ← unless (all_bound fifo register binds) Unbound
+  _ ← unless (binds_each_dimension fifo register binds) Unbound
   _ ← unless (none_twice (λ b. b.dimension) binds) TwiceBound
   _ ← unless (not (same_name quantity cost)) TwiceBound
   _ ← unless register.balance WrongRegister
@@ -47,18 +48,20 @@ write_off_act fifo place amount parts = do
   Ok (WriteOff fifo place p.0 p.1.0 p.1.1 amount)
 
 -- a write-off from the register at the place
-unfoldable pub written_off : Kind → Round → ℕ → Register → Bool → List PlainBind → PlainAmount
+unfoldable pub resolved_write_off_from : Kind → Round → ℕ → Register → Bool → List PlainBind
+    → PlainAmount
     → Spelling → Checked Act
-written_off kind round place register fifo binds wanted cost = do
+resolved_write_off_from kind round place register fifo binds wanted cost = do
   amount ← place_of (λ r. r.name) register.resources cost
   write_off_act fifo place amount
       (beside (write_off_fits fifo register binds wanted.resource cost)
-      (both (each (bind_of kind round register) binds) (amount_of kind round register wanted)))
+      (both (each_or_least (resolved_bind kind round register) binds)
+      (resolved_amount kind round register wanted)))
 
 -- fifo, average
-unfoldable pub write_off_of : Config → Kind → Round → Bool → Target → PlainAmount → Spelling
+unfoldable pub resolved_write_off : Config → Kind → Round → Bool → Target → PlainAmount → Spelling
     → Checked Act
-write_off_of config kind round fifo target wanted cost = do
+resolved_write_off config kind round fifo target wanted cost = do
   place ← place_of (λ r. r.name) config.registers target.register
   register ← item_at config.registers place
-  written_off kind round place register fifo target.binds wanted cost
+  resolved_write_off_from kind round place register fifo target.binds wanted cost

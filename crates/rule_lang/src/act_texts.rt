@@ -1,40 +1,51 @@
 //! The canonical text of acts.
 ghost use Rattle.std.specs.Prelude.{◌≡◌, ◌++◌, IfOk, codes, string_bytes};
-ghost use Rattle.rule_lang.specs.TermTexts.{listed as listed_text, code_text as code_text_of};
-ghost use Rattle.rule_lang.specs.RuleTexts.{to_text as to_text_of, bind_text as bind_text_of, binds_text as binds_text_of, resource_scale as resource_scale_of, amount_text as amount_text_of, amounts_text as amounts_text_of, verb_text as verb_text_of, order_text as order_text_of, make_text as make_text_of, write_off_text as write_off_text_of, require_text as require_text_of, control_text as control_text_of, side_text as side_text_of, entry_text as entry_text_of, act_text as act_text_of};
+ghost use Rattle.rule_lang.specs.TermTexts.{list_text as list_text_of, code_text as code_text_of};
+ghost use Rattle.rule_lang.specs.RuleTexts.{to_text as to_text_of, bind_text as bind_text_of};
+ghost use Rattle.rule_lang.specs.RuleTexts.{binds_text as binds_text_of};
+ghost use Rattle.rule_lang.specs.RuleTexts.{amount_text as amount_text_of};
+ghost use Rattle.rule_lang.specs.RuleTexts.{amounts_text as amounts_text_of};
+ghost use Rattle.rule_lang.specs.RuleTexts.{verb_text as verb_text_of, order_text as order_text_of};
+ghost use Rattle.rule_lang.specs.RuleTexts.{make_text as make_text_of};
+ghost use Rattle.rule_lang.specs.RuleTexts.{write_off_text as write_off_text_of};
+ghost use Rattle.rule_lang.specs.RuleTexts.{require_text as require_text_of};
+ghost use Rattle.rule_lang.specs.RuleTexts.{control_text as control_text_of};
+ghost use Rattle.rule_lang.specs.RuleTexts.{side_text as side_text_of, entry_text as entry_text_of};
+ghost use Rattle.rule_lang.specs.RuleTexts.{act_text as act_text_of};
 
-use crate::spelt::{Spelt, listed, name_at};
-use crate::term_texts::{code_text, copied, terms_text};
+use crate::costs::resource_scale;
+use crate::spelt::{Spelt, list_text, name_of_place};
+use crate::term_texts::{code_text, terms_text};
 use crate::{Act, Bind, BindTo, CodeTerm, Place, Sum, Term, Verb};
 use cfg_model::{Chart, Config, Kind, Register};
-use reg_base::{Code, Memory, Scale};
+use reg_base::{Code, Memory, string_of};
 use std::alloc::Global;
 
-/// Where binds and amounts are written: a document type and a register.
+// Where binds and amounts are written: a document type and a register.
 #[derive(Drop)]
 pub(crate) struct WrittenScene<'a> {
     kind: &'a Kind,
     register: &'a Register,
 }
 
-/// `point`, or a code.
+// `point`, or a code.
 #[tactic(auto, unfolding(crate::specs::RuleTexts::to_text))]
 fn to_text(alloc: Global, kind: &Kind, to: &BindTo) -> Result<String, Memory>
     ensures { IfOk result (λ t. string_bytes t ≡ to_text_of kind.now to.now) }
 {
     match to {
-        BindTo::Point => copied(alloc, "point"),
+        BindTo::Point => string_of(alloc, "point"),
         BindTo::Code(code) => code_text(alloc, kind, code),
     }
 }
 
-/// A dimension with its value.
+// A dimension with its value.
 #[tactic(auto, unfolding(crate::specs::RuleTexts::bind_text))]
 fn bind_text(alloc: Global, kind: &Kind, register: &Register, bind: &Bind) -> Result<String, Memory>
     ensures { IfOk result
         (λ t. string_bytes t ≡ bind_text_of kind.now register.now bind.now) }
 {
-    let name = name_at(register.dimensions.as_slice(), bind.dimension);
+    let name = name_of_place(register.dimensions.as_slice(), bind.dimension);
     let to = to_text(alloc, kind, &bind.to)?;
     Ok(format!(in alloc; "{name} = {to}")?)
 }
@@ -55,7 +66,7 @@ impl<'a> Spelt<WrittenScene<'a>> for Bind {
     }
 }
 
-/// Dimensions with their values, behind commas.
+// Dimensions with their values, behind commas.
 #[tactic(auto, unfolding(crate::specs::RuleTexts::binds_text))]
 fn binds_text(
     alloc: Global,
@@ -67,18 +78,10 @@ fn binds_text(
         (λ t. string_bytes t ≡ binds_text_of kind.now register.now binds.now) }
 {
     let scene = WrittenScene { kind, register };
-    listed(alloc, &scene, binds)
+    list_text(alloc, &scene, binds)
 }
 
-/// The scale of the resource at the place.
-fn resource_scale(register: &Register, place: u8) -> Option<Scale>
-    ensures { result ≡ resource_scale_of register.now place }
-{
-    let resource = register.resources.get(usize::from(place))?;
-    Some(resource.scale)
-}
-
-/// A resource with its number.
+// A resource with its number.
 #[tactic(auto, unfolding(crate::specs::RuleTexts::amount_text))]
 fn amount_text(
     alloc: Global,
@@ -90,7 +93,7 @@ fn amount_text(
     ensures { IfOk result
         (λ t. string_bytes t ≡ amount_text_of kind.now register.now place terms.now) }
 {
-    let name = name_at(register.resources.as_slice(), place);
+    let name = name_of_place(register.resources.as_slice(), place);
     let sum = terms_text(alloc, kind, resource_scale(register, place), terms)?;
     Ok(format!(in alloc; "{name} = {sum}")?)
 }
@@ -117,7 +120,7 @@ impl<'a> Spelt<WrittenScene<'a>> for (u8, Sum) {
     }
 }
 
-/// Resources with their numbers, behind commas.
+// Resources with their numbers, behind commas.
 #[tactic(auto, unfolding(crate::specs::RuleTexts::amounts_text))]
 fn amounts_text(
     alloc: Global,
@@ -129,7 +132,7 @@ fn amounts_text(
         (λ t. string_bytes t ≡ amounts_text_of kind.now register.now sums.now) }
 {
     let scene = WrittenScene { kind, register };
-    listed(alloc, &scene, sums)
+    list_text(alloc, &scene, sums)
 }
 
 fn verb_text(verb: Verb) -> &'static str
@@ -148,7 +151,7 @@ fn order_text(fifo: bool) -> &'static str
     if fifo { "fifo" } else { "average" }
 }
 
-/// Receipt, expense, turn.
+// Receipt, expense, turn.
 #[tactic(auto, unfolding(crate::specs::RuleTexts::make_text))]
 fn make_text(
     alloc: Global,
@@ -168,7 +171,7 @@ fn make_text(
     Ok(format!(in alloc; "{word} {name}({bound}; {amounts})")?)
 }
 
-/// Fifo, average.
+// Fifo, average.
 #[tactic(auto, unfolding(crate::specs::RuleTexts::write_off_text))]
 fn write_off_text(
     alloc: Global,
@@ -187,11 +190,11 @@ fn write_off_text(
     let name = register.name.as_str();
     let bound = binds_text(alloc, kind, register, binds)?;
     let taken = amount_text(alloc, kind, register, quantity, wanted.terms.as_slice())?;
-    let cost = name_at(register.resources.as_slice(), amount);
+    let cost = name_of_place(register.resources.as_slice(), amount);
     Ok(format!(in alloc; "{word} {name}({bound}; {taken}, {cost})")?)
 }
 
-/// Require.
+// Require.
 #[tactic(auto, unfolding(crate::specs::RuleTexts::require_text))]
 fn require_text(
     alloc: Global,
@@ -207,30 +210,30 @@ fn require_text(
 {
     let name = register.name.as_str();
     let bound = binds_text(alloc, kind, register, binds)?;
-    let of = name_at(register.resources.as_slice(), resource);
+    let of = name_of_place(register.resources.as_slice(), resource);
     let scale = resource_scale(register, resource);
     let sum = terms_text(alloc, kind, scale, least.terms.as_slice())?;
     let code = code.as_str();
     Ok(format!(in alloc; "require {name}({bound}; {of}) >= {sum} code \"{code}\"")?)
 }
 
-/// Control.
+// Control.
 #[tactic(auto, unfolding(crate::specs::RuleTexts::control_text))]
 fn control_text(alloc: Global, resource: u8, register: &Register) -> Result<String, Memory>
     ensures { IfOk result (λ t. string_bytes t ≡ control_text_of resource register.now) }
 {
     let name = register.name.as_str();
-    let of = name_at(register.resources.as_slice(), resource);
+    let of = name_of_place(register.resources.as_slice(), resource);
     Ok(format!(in alloc; "control {name} {of}")?)
 }
 
-/// `none`, or an account with its extras.
+// `none`, or an account with its extras.
 #[tactic(auto, unfolding(crate::specs::RuleTexts::side_text))]
 fn side_text(alloc: Global, kind: &Kind, side: &Option<Place>) -> Result<String, Memory>
     ensures { IfOk result (λ t. string_bytes t ≡ side_text_of kind.now side.now) }
 {
     match side {
-        None => copied(alloc, "none"),
+        None => string_of(alloc, "none"),
         Some(side) => account_text(alloc, kind, &side.account, side.extras.as_slice()),
     }
 }
@@ -242,15 +245,15 @@ fn account_text(
     extras: &[CodeTerm],
 ) -> Result<String, Memory>
     ensures { IfOk result (λ t. string_bytes t ≡ code_text_of kind.now account.now
-        ++ (codes "(" ++ (listed_text (λ _. codes ", ") (code_text_of kind.now) extras.now
+        ++ (codes "(" ++ (list_text_of (λ _. codes ", ") (code_text_of kind.now) extras.now
         ++ codes ")"))) }
 {
     let account = code_text(alloc, kind, account)?;
-    let extras = listed(alloc, kind, extras)?;
+    let extras = list_text(alloc, kind, extras)?;
     Ok(format!(in alloc; "{account}({extras})")?)
 }
 
-/// Entry.
+// Entry.
 #[tactic(auto, unfolding(crate::specs::RuleTexts::entry_text))]
 fn entry_text(
     alloc: Global,
@@ -270,7 +273,7 @@ fn entry_text(
     Ok(format!(in alloc; "entry {name}(debit {debit}, credit {credit}; {sum})")?)
 }
 
-/// An act; empty where it stands on nothing.
+// An act; empty where it stands on nothing.
 #[tactic(auto, unfolding(crate::specs::RuleTexts::act_text))]
 pub(crate) fn act_text(
     alloc: Global,

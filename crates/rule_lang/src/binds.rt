@@ -1,22 +1,27 @@
 //! The dimensions and resources of a register with what is given them.
-ghost use Rattle.std.specs.Prelude.{◌≡◌, IfOk, not};
+ghost use Rattle.std.specs.Prelude.{◌≡◌, not};
 ghost use Rattle.std.specs.List.{list_any};
 ghost use Rattle.rule_text.specs.declared.token.Spelling.{Spelling as Word};
 ghost use Rattle.reg_base.specs.Results.{unless};
 ghost use Rattle.rule_lang.specs.declared.fault.RuleWhy.TheVariants.{WrongType};
-ghost use Rattle.rule_lang.specs.Least.{each as each_of};
-ghost use Rattle.rule_lang.specs.Binds.{bind_to as bind_to_in, bind_of as bind_in, amount_of as amount_in, is_bound as is_bound_in, all_bound as all_bound_in, same_name as is_same_name, none_twice as none_twice_in};
+ghost use Rattle.rule_lang.specs.Least.{each_or_least as each_of};
+ghost use Rattle.rule_lang.specs.Binds.{resolved_bind_to as bind_to_in, resolved_bind as bind_in};
+ghost use Rattle.rule_lang.specs.Binds.{resolved_amount as amount_in, is_bound as is_bound_in};
+ghost use Rattle.rule_lang.specs.Binds.{binds_each_dimension as all_bound_in};
+ghost use Rattle.rule_lang.specs.Binds.{same_name as is_same_name, none_twice as none_twice_in};
+ghost use Rattle.rule_lang.specs.Resolves.{Resolves};
 
 use crate::fields::place_of;
-use crate::least::{Check, Tried, beside, each};
-use crate::terms::{Round, code_of, sum_of};
+use crate::least::{Check, beside, each_or_least};
+use crate::terms::{Round, resolved_code, resolved_sum};
+use crate::tried::{StatementFault, Tried};
 use crate::{Bind, BindTo, RuleWhy, Sum};
 use cfg_model::{Dimension, Kind, Register};
 use reg_base::{Code, List};
 use rule_text::{PlainAmount, PlainBind, PlainTo, Spelling};
 use std::alloc::Global;
 
-/// Where binds and amounts stand: a document type, a round and a register.
+// Where binds and amounts stand: a document type, a round and a register.
 #[derive(Drop)]
 pub(crate) struct RegisterScene<'a> {
     kind: &'a Kind,
@@ -24,20 +29,20 @@ pub(crate) struct RegisterScene<'a> {
     register: &'a Register,
 }
 
-/// `point` for a lot, and a code for every other dimension.
-#[tactic(auto, unfolding(crate::specs::Binds::bind_to))]
-fn bind_to(kind: &Kind, round: &Round, lot: bool, plain: &PlainTo) -> Result<BindTo, RuleWhy>
-    ensures { result ≡ bind_to_in kind.now round.now lot plain.now }
+// `point` for a lot, and a code for every other dimension.
+#[tactic(auto, unfolding(crate::specs::Binds::resolved_bind_to))]
+fn resolved_bind_to(kind: &Kind, round: &Round, lot: bool, plain: &PlainTo) -> Tried<BindTo>
+    ensures { Resolves result (bind_to_in kind.now round.now lot plain.now) }
 {
     match plain {
         PlainTo::Point => {
             if !lot {
-                return Err(RuleWhy::WrongType);
+                return Err(StatementFault::Wrong(RuleWhy::WrongType));
             }
             Ok(BindTo::Point)
         }
         PlainTo::Code(code) => {
-            let code = beside(code_fits(lot), code_of(kind, round, code))?;
+            let code = beside(code_fits(lot), resolved_code(kind, round, code))?;
             Ok(BindTo::Code(code))
         }
     }
@@ -52,23 +57,23 @@ fn code_fits(lot: bool) -> Result<(), RuleWhy>
     Ok(())
 }
 
-/// A dimension of the register with its value.
-#[tactic(auto, unfolding(crate::specs::Binds::bind_of))]
-fn bind_of(scene: &RegisterScene, plain: &PlainBind) -> Result<Bind, RuleWhy>
-    ensures { result ≡ bind_in scene.now.kind.now scene.now.round.now scene.now.register.now
-        plain.now }
+// A dimension of the register with its value.
+#[tactic(auto, unfolding(crate::specs::Binds::resolved_bind))]
+fn resolved_bind(scene: &RegisterScene, plain: &PlainBind) -> Tried<Bind>
+    ensures { Resolves result (bind_in scene.now.kind.now scene.now.round.now
+        scene.now.register.now plain.now) }
 {
     let place = place_of(scene.register.dimensions.as_slice(), &plain.dimension)?;
-    match scene.register.dimensions.get(usize::from(place)) {
-        Some(dimension) => {
-            let to = bind_to(scene.kind, scene.round, dimension.lot, &plain.to)?;
-            Ok(Bind {
-                dimension: place,
-                to,
-            })
-        }
-        None => Err(RuleWhy::UnknownName),
-    }
+    let dimension = scene
+        .register
+        .dimensions
+        .get(usize::from(place))
+        .ok_or(RuleWhy::UnknownName)?;
+    let to = resolved_bind_to(scene.kind, scene.round, dimension.lot, &plain.to)?;
+    Ok(Bind {
+        dimension: place,
+        to,
+    })
 }
 
 impl<'a> Check<RegisterScene<'a>, Bind> for PlainBind {
@@ -76,39 +81,34 @@ impl<'a> Check<RegisterScene<'a>, Bind> for PlainBind {
         plain };
 
     fn check(&self, _alloc: Global, scene: &RegisterScene<'a>) -> Tried<Bind> {
-        Ok(bind_of(scene, self))
+        resolved_bind(scene, self)
     }
 }
 
-/// A resource of the register with its number.
-#[tactic(auto, unfolding(crate::specs::Binds::amount_of))]
-pub(crate) fn amount_of(
+// A resource of the register with its number.
+#[tactic(auto, unfolding(crate::specs::Binds::resolved_amount))]
+pub(crate) fn resolved_amount(
     alloc: Global,
     kind: &Kind,
     round: &Round,
     register: &Register,
     plain: &PlainAmount,
 ) -> Tried<(u8, Sum)>
-    ensures { IfOk result
-        (λ tried. tried ≡ amount_in kind.now round.now register.now plain.now) }
+    ensures { Resolves result (amount_in kind.now round.now register.now plain.now) }
 {
-    let place = match place_of(register.resources.as_slice(), &plain.resource) {
-        Ok(place) => place,
-        Err(why) => return Ok(Err(why)),
-    };
-    let Some(resource) = register.resources.get(usize::from(place)) else {
-        return Ok(Err(RuleWhy::UnknownName));
-    };
-    match sum_of(
+    let place = place_of(register.resources.as_slice(), &plain.resource)?;
+    let resource = register
+        .resources
+        .get(usize::from(place))
+        .ok_or(RuleWhy::UnknownName)?;
+    let sum = resolved_sum(
         alloc,
         kind,
         round,
         Some(resource.scale),
         plain.sum.as_slice(),
-    )? {
-        Ok(sum) => Ok(Ok((place, sum))),
-        Err(why) => Ok(Err(why)),
-    }
+    )?;
+    Ok((place, sum))
 }
 
 impl<'a> Check<RegisterScene<'a>, (u8, Sum)> for PlainAmount {
@@ -116,11 +116,11 @@ impl<'a> Check<RegisterScene<'a>, (u8, Sum)> for PlainAmount {
         plain };
 
     fn check(&self, alloc: Global, scene: &RegisterScene<'a>) -> Tried<(u8, Sum)> {
-        amount_of(alloc, scene.kind, scene.round, scene.register, self)
+        resolved_amount(alloc, scene.kind, scene.round, scene.register, self)
     }
 }
 
-/// The binds of a target in a register.
+// The binds of a target in a register.
 pub(crate) fn binds_of(
     alloc: Global,
     kind: &Kind,
@@ -128,7 +128,7 @@ pub(crate) fn binds_of(
     register: &Register,
     binds: &[PlainBind],
 ) -> Tried<List<Bind>>
-    ensures { IfOk result (λ tried. tried ≡ each_of (bind_in kind.now round.now register.now)
+    ensures { Resolves result (each_of (bind_in kind.now round.now register.now)
         binds.now) }
 {
     let scene = RegisterScene {
@@ -136,10 +136,10 @@ pub(crate) fn binds_of(
         round,
         register,
     };
-    each(alloc, &scene, binds)
+    each_or_least(alloc, &scene, binds)
 }
 
-/// Whether the dimension has a value.
+// Whether the dimension has a value.
 pub(crate) fn is_bound(binds: &[PlainBind], dimension: &Dimension) -> bool
     ensures { result ≡ is_bound_in binds.now dimension.now }
 {
@@ -147,8 +147,12 @@ pub(crate) fn is_bound(binds: &[PlainBind], dimension: &Dimension) -> bool
     binds.iter().any(|b| b.dimension.is(name))
 }
 
-/// Whether each dimension has a value, or is a lot where lots need none.
-pub(crate) fn all_bound(lots_free: bool, register: &Register, binds: &[PlainBind]) -> bool
+// Whether each dimension has a value, or is a lot where lots need none.
+pub(crate) fn binds_each_dimension(
+    lots_free: bool,
+    register: &Register,
+    binds: &[PlainBind],
+) -> bool
     ensures { result ≡ all_bound_in lots_free register.now binds.now }
 {
     register
@@ -158,7 +162,7 @@ pub(crate) fn all_bound(lots_free: bool, register: &Register, binds: &[PlainBind
         .all(|d| lots_free && d.lot || is_bound(binds, d))
 }
 
-/// Whether two words are one name.
+// Whether two words are one name.
 pub(crate) fn same_name(word: &Spelling, other: &Spelling) -> bool
     ensures { result ≡ is_same_name word.now other.now }
 {
@@ -168,7 +172,7 @@ pub(crate) fn same_name(word: &Spelling, other: &Spelling) -> bool
     }
 }
 
-/// What is told apart by a word.
+// What is told apart by a word.
 pub(crate) trait HasWord {
     ghost word_of: { Self → Word };
 
@@ -192,7 +196,7 @@ impl HasWord for PlainAmount {
     }
 }
 
-/// Whether no name stands twice.
+// Whether no name stands twice.
 #[tactic(auto, unfolding(crate::specs::Binds::none_twice))]
 pub(crate) fn none_twice<H: HasWord>(items: &[H]) -> bool
     ensures { result ≡ none_twice_in H.word_of items.now }
@@ -211,7 +215,7 @@ fn stands_in<H: HasWord>(word: &Spelling, items: &[H]) -> bool
     items.iter().any(|item| same_name(word, item.word()))
 }
 
-/// The amounts of a register.
+// The amounts of a register.
 pub(crate) fn amounts_of(
     alloc: Global,
     kind: &Kind,
@@ -219,7 +223,7 @@ pub(crate) fn amounts_of(
     register: &Register,
     sums: &[PlainAmount],
 ) -> Tried<List<(u8, Sum)>>
-    ensures { IfOk result (λ tried. tried ≡ each_of (amount_in kind.now round.now register.now)
+    ensures { Resolves result (each_of (amount_in kind.now round.now register.now)
         sums.now) }
 {
     let scene = RegisterScene {
@@ -227,5 +231,5 @@ pub(crate) fn amounts_of(
         round,
         register,
     };
-    each(alloc, &scene, sums)
+    each_or_least(alloc, &scene, sums)
 }

@@ -1,29 +1,38 @@
 //! The condition of a statement in a document type.
-ghost use Rattle.std.specs.Prelude.{◌≡◌, Option, IfOk};
-ghost use Rattle.rule_lang.specs.Conditions.{scale_of_field as scale_of_field_in, scale_of_part as scale_of_part_in, first_scale as first_scale_in, asked_scale as asked_scale_in, sums_of as sums_in, codes_of as codes_in, has_code as has_code_in, lone_code as lone_code_in, cond_of as cond_in, compared as compared_in};
+ghost use Rattle.std.specs.Prelude.{◌≡◌, Option};
+ghost use Rattle.rule_lang.specs.Conditions.{scale_of_field as scale_of_field_in};
+ghost use Rattle.rule_lang.specs.Conditions.{scale_of_part as scale_of_part_in};
+ghost use Rattle.rule_lang.specs.Conditions.{first_scale as first_scale_in};
+ghost use Rattle.rule_lang.specs.Conditions.{asked_scale as asked_scale_in};
+ghost use Rattle.rule_lang.specs.Conditions.{resolved_sums as sums_in, resolved_codes as codes_in};
+ghost use Rattle.rule_lang.specs.Conditions.{has_code as has_code_in, lone_code as lone_code_in};
+ghost use Rattle.rule_lang.specs.Conditions.{resolved_cond as cond_in};
+ghost use Rattle.rule_lang.specs.Conditions.{codes_or_sums as compared_in};
 ghost use Rattle.rule_text.specs.Plain.{equality_of};
+ghost use Rattle.rule_lang.specs.Resolves.{Resolves};
 
-use crate::fields::{code_field, field_of};
-use crate::least::{Tried, both};
-use crate::terms::{Round, code_of, sum_of};
-use crate::{Cond, RuleWhy};
+use crate::Cond;
+use crate::fields::{resolved_code_field, resolved_field};
+use crate::least::both;
+use crate::terms::{Round, resolved_code, resolved_sum};
+use crate::tried::Tried;
 use cfg_model::{Field, Kind};
 use reg_base::Scale;
 use rule_text::{PlainCode, PlainCond, PlainPart, PlainTerm, Spelling, Test, lone_field};
 use std::alloc::Global;
 
-/// The scale of a field, if there is the field and it has numbers.
+// The scale of a field, if there is the field and it has numbers.
 #[tactic(auto, unfolding(crate::specs::Conditions::scale_of_field))]
 fn scale_of_field(fields: &[Field], spelling: &Spelling) -> Option<Scale>
     ensures { result ≡ scale_of_field_in fields.now spelling.now }
 {
-    match field_of(fields, spelling) {
+    match resolved_field(fields, spelling) {
         Ok(found) => found.scale,
         Err(_) => None,
     }
 }
 
-/// The scale that a part brings to a condition.
+// The scale that a part brings to a condition.
 #[tactic(auto, unfolding(crate::specs::Conditions::scale_of_part))]
 fn scale_of_part(kind: &Kind, round: &Round, plain: &PlainPart) -> Option<Option<Scale>>
     ensures { result ≡ scale_of_part_in kind.now round.now plain.now }
@@ -37,7 +46,7 @@ fn scale_of_part(kind: &Kind, round: &Round, plain: &PlainPart) -> Option<Option
     }
 }
 
-/// The scale of the first of these terms that brings one, else the other.
+// The scale of the first of these terms that brings one, else the other.
 #[tactic(auto, unfolding(crate::specs::Conditions::first_scale))]
 fn first_scale(
     kind: &Kind,
@@ -55,7 +64,7 @@ fn first_scale(
     other
 }
 
-/// The scale of the first field or `cost` in a condition, or else six decimals.
+// The scale of the first field or `cost` in a condition, or else six decimals.
 #[tactic(auto, unfolding(crate::specs::Conditions::asked_scale))]
 fn asked_scale(kind: &Kind, round: &Round, left: &[PlainTerm], right: &[PlainTerm]) -> Option<Scale>
     ensures { result ≡ asked_scale_in kind.now round.now left.now right.now }
@@ -64,9 +73,9 @@ fn asked_scale(kind: &Kind, round: &Round, left: &[PlainTerm], right: &[PlainTer
     first_scale(kind, round, right_scale, left)
 }
 
-/// Two sums at the scale of the first field or `cost` in them, or with six decimals.
-#[tactic(auto, unfolding(crate::specs::Conditions::sums_of))]
-fn sums_of(
+// Two sums at the scale of the first field or `cost` in them, or with six decimals.
+#[tactic(auto, unfolding(crate::specs::Conditions::resolved_sums))]
+fn resolved_sums(
     alloc: Global,
     kind: &Kind,
     round: &Round,
@@ -74,41 +83,41 @@ fn sums_of(
     test: Test,
     right: &[PlainTerm],
 ) -> Tried<Cond>
-    ensures { IfOk result
-        (λ tried. tried ≡ sums_in kind.now round.now left.now test right.now) }
+    ensures { Resolves result (sums_in kind.now round.now left.now test right.now) }
 {
-    let left_sum = sum_of(
+    let left_sum = resolved_sum(
         alloc,
         kind,
         round,
         asked_scale(kind, round, left, right),
         left,
-    )?;
-    let right_sum = sum_of(
+    );
+    let right_sum = resolved_sum(
         alloc,
         kind,
         round,
         asked_scale(kind, round, left, right),
         right,
-    )?;
-    match both(left_sum, right_sum) {
-        Ok((left, right)) => Ok(Ok(Cond::Sums { left, test, right })),
-        Err(why) => Ok(Err(why)),
-    }
+    );
+    let (left, right) = both(left_sum, right_sum)?;
+    Ok(Cond::Sums { left, test, right })
 }
 
-/// Two codes.
-#[tactic(auto, unfolding(crate::specs::Conditions::codes_of))]
-fn codes_of(
+// Two codes.
+#[tactic(auto, unfolding(crate::specs::Conditions::resolved_codes))]
+fn resolved_codes(
     kind: &Kind,
     round: &Round,
     left: &PlainCode,
     equal: bool,
     right: &PlainCode,
-) -> Result<Cond, RuleWhy>
-    ensures { result ≡ codes_in kind.now round.now left.now equal right.now }
+) -> Tried<Cond>
+    ensures { Resolves result (codes_in kind.now round.now left.now equal right.now) }
 {
-    let (left, right) = both(code_of(kind, round, left), code_of(kind, round, right))?;
+    let (left, right) = both(
+        resolved_code(kind, round, left),
+        resolved_code(kind, round, right),
+    )?;
     Ok(Cond::Codes { left, equal, right })
 }
 
@@ -117,12 +126,12 @@ fn has_code(kind: &Kind, code: &PlainCode) -> bool
 {
     match code {
         PlainCode::Text(_) => true,
-        PlainCode::Head(spelling) => code_field(kind.head.as_slice(), spelling).is_ok(),
-        PlainCode::Line(spelling) => code_field(kind.lines.as_slice(), spelling).is_ok(),
+        PlainCode::Head(spelling) => resolved_code_field(kind.head.as_slice(), spelling).is_ok(),
+        PlainCode::Line(spelling) => resolved_code_field(kind.lines.as_slice(), spelling).is_ok(),
     }
 }
 
-/// The field with codes that a sum is.
+// The field with codes that a sum is.
 #[tactic(auto, unfolding(crate::specs::Conditions::lone_code))]
 fn lone_code(kind: &Kind, terms: &[PlainTerm]) -> Option<PlainCode>
     ensures { result ≡ lone_code_in kind.now terms.now }
@@ -134,20 +143,27 @@ fn lone_code(kind: &Kind, terms: &[PlainTerm]) -> Option<PlainCode>
     Some(code)
 }
 
-/// A condition.
-#[tactic(auto, unfolding(crate::specs::Conditions::cond_of))]
-pub(crate) fn cond_of(alloc: Global, kind: &Kind, round: &Round, plain: &PlainCond) -> Tried<Cond>
-    ensures { IfOk result (λ tried. tried ≡ cond_in kind.now round.now plain.now) }
+// A condition.
+#[tactic(auto, unfolding(crate::specs::Conditions::resolved_cond))]
+pub(crate) fn resolved_cond(
+    alloc: Global,
+    kind: &Kind,
+    round: &Round,
+    plain: &PlainCond,
+) -> Tried<Cond>
+    ensures { Resolves result (cond_in kind.now round.now plain.now) }
 {
     match plain {
-        PlainCond::Codes { left, equal, right } => Ok(codes_of(kind, round, left, *equal, right)),
+        PlainCond::Codes { left, equal, right } => {
+            resolved_codes(kind, round, left, *equal, right)
+        }
         PlainCond::Sums { left, test, right } => {
-            compared(alloc, kind, round, left.as_slice(), *test, right.as_slice())
+            codes_or_sums(alloc, kind, round, left.as_slice(), *test, right.as_slice())
         }
     }
 }
 
-fn compared(
+fn codes_or_sums(
     alloc: Global,
     kind: &Kind,
     round: &Round,
@@ -155,7 +171,7 @@ fn compared(
     test: Test,
     right: &[PlainTerm],
 ) -> Tried<Cond>
-    ensures { IfOk result (λ tried. tried ≡ compared_in (lone_code_in kind.now left.now)
+    ensures { Resolves result (compared_in (lone_code_in kind.now left.now)
         (equality_of test) (lone_code_in kind.now right.now) kind.now round.now
         (sums_in kind.now round.now left.now test right.now)) }
 {
@@ -164,7 +180,9 @@ fn compared(
         test.equality(),
         lone_code(kind, right),
     ) {
-        (Some(left), Some(equal), Some(right)) => Ok(codes_of(kind, round, &left, equal, &right)),
-        _ => sums_of(alloc, kind, round, left, test, right),
+        (Some(left), Some(equal), Some(right)) => {
+            resolved_codes(kind, round, &left, equal, &right)
+        }
+        _ => resolved_sums(alloc, kind, round, left, test, right),
     }
 }

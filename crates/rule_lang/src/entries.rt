@@ -1,19 +1,22 @@
 //! Entries of a ledger.
-ghost use Rattle.std.specs.Prelude.{◌≡◌, IfOk};
-ghost use Rattle.rule_lang.specs.Least.{each as each_of};
-ghost use Rattle.rule_lang.specs.Terms.{code_of as code_in};
-ghost use Rattle.rule_lang.specs.Entries.{entry_act as entry_act_of, account_of as account_in, side_of as side_in, entry_of as entry_in};
+ghost use Rattle.std.specs.Prelude.{◌≡◌};
+ghost use Rattle.rule_lang.specs.Least.{each_or_least as each_of};
+ghost use Rattle.rule_lang.specs.Terms.{resolved_code as code_in};
+ghost use Rattle.rule_lang.specs.Entries.{resolved_account as account_in, resolved_side as side_in};
+ghost use Rattle.rule_lang.specs.Entries.{resolved_entry as entry_in};
+ghost use Rattle.rule_lang.specs.Resolves.{Resolves};
 
 use crate::fields::place_of;
-use crate::least::{Check, Tried, both, each};
-use crate::terms::{Round, code_of, sum_of};
-use crate::{Act, CodeTerm, Place, RuleWhy, Sum};
+use crate::least::{Check, both, each_or_least};
+use crate::terms::{Round, resolved_code, resolved_sum};
+use crate::tried::Tried;
+use crate::{Act, CodeTerm, Place, RuleWhy};
 use cfg_model::{Config, Kind};
 use reg_base::List;
 use rule_text::{PlainCode, PlainSide, PlainSides, PlainTerm, Spelling};
 use std::alloc::Global;
 
-/// Where a code stands: a document type and a round.
+// Where a code stands: a document type and a round.
 #[derive(Drop)]
 pub(crate) struct CodeScene<'a> {
     kind: &'a Kind,
@@ -24,7 +27,7 @@ impl<'a> Check<CodeScene<'a>, CodeTerm> for PlainCode {
     ghost checks = { λ scene plain. code_in scene.kind.now scene.round.now plain };
 
     fn check(&self, _alloc: Global, scene: &CodeScene<'a>) -> Tried<CodeTerm> {
-        Ok(code_of(scene.kind, scene.round, self))
+        resolved_code(scene.kind, scene.round, self)
     }
 }
 
@@ -34,46 +37,42 @@ fn extras_of(
     round: &Round,
     extras: &[PlainCode],
 ) -> Tried<List<CodeTerm>>
-    ensures { IfOk result (λ tried. tried ≡ each_of (code_in kind.now round.now) extras.now) }
+    ensures { Resolves result (each_of (code_in kind.now round.now) extras.now) }
 {
     let scene = CodeScene { kind, round };
-    each(alloc, &scene, extras)
+    each_or_least(alloc, &scene, extras)
 }
 
-/// An account with its extras.
-#[tactic(auto, unfolding(crate::specs::Entries::account_of))]
-fn account_of(alloc: Global, kind: &Kind, round: &Round, side: &PlainSide) -> Tried<Place>
-    ensures { IfOk result (λ tried. tried ≡ account_in kind.now round.now side.now) }
+// An account with its extras.
+#[tactic(auto, unfolding(crate::specs::Entries::resolved_account))]
+fn resolved_account(alloc: Global, kind: &Kind, round: &Round, side: &PlainSide) -> Tried<Place>
+    ensures { Resolves result (account_in kind.now round.now side.now) }
 {
-    let extras = extras_of(alloc, kind, round, side.extras.as_slice())?;
-    match both(code_of(kind, round, &side.account), extras) {
-        Ok((account, extras)) => Ok(Ok(Place { account, extras })),
-        Err(why) => Ok(Err(why)),
-    }
+    let account = resolved_code(kind, round, &side.account);
+    let extras = extras_of(alloc, kind, round, side.extras.as_slice());
+    let (account, extras) = both(account, extras)?;
+    Ok(Place { account, extras })
 }
 
-/// A side, which may be absent.
-#[tactic(auto, unfolding(crate::specs::Entries::side_of))]
-fn side_of(
+// A side, which may be absent.
+#[tactic(auto, unfolding(crate::specs::Entries::resolved_side))]
+fn resolved_side(
     alloc: Global,
     kind: &Kind,
     round: &Round,
     side: &Option<PlainSide>,
 ) -> Tried<Option<Place>>
-    ensures { IfOk result (λ tried. tried ≡ side_in kind.now round.now side.now) }
+    ensures { Resolves result (side_in kind.now round.now side.now) }
 {
     match side {
-        None => Ok(Ok(None)),
-        Some(side) => match account_of(alloc, kind, round, side)? {
-            Ok(place) => Ok(Ok(Some(place))),
-            Err(why) => Ok(Err(why)),
-        },
+        None => Ok(None),
+        Some(side) => Ok(Some(resolved_account(alloc, kind, round, side)?)),
     }
 }
 
-/// Entry.
-#[tactic(auto, unfolding(crate::specs::Entries::entry_of))]
-pub(crate) fn entry_of(
+// Entry.
+#[tactic(auto, unfolding(crate::specs::Entries::resolved_entry, crate::specs::Entries::entry_act))]
+pub(crate) fn resolved_entry(
     alloc: Global,
     config: &Config,
     kind: &Kind,
@@ -82,32 +81,20 @@ pub(crate) fn entry_of(
     sides: &PlainSides,
     amount: &[PlainTerm],
 ) -> Tried<Act>
-    ensures { IfOk result (λ tried. tried ≡ entry_in config.now kind.now round.now ledger.now
+    ensures { Resolves result (entry_in config.now kind.now round.now ledger.now
         sides.now amount.now) }
 {
-    let place = match place_of(config.ledgers.as_slice(), ledger) {
-        Ok(place) => place,
-        Err(why) => return Ok(Err(why)),
-    };
-    let Some(chart) = config.ledgers.get(usize::from(place)) else {
-        return Ok(Err(RuleWhy::UnknownName));
-    };
-    let debit = side_of(alloc, kind, round, &sides.debit)?;
-    let credit = side_of(alloc, kind, round, &sides.credit)?;
-    let amount = sum_of(alloc, kind, round, Some(chart.scale), amount)?;
-    Ok(entry_act(place, both(both(debit, credit), amount)))
-}
-
-#[tactic(auto, unfolding(crate::specs::Entries::entry_act))]
-fn entry_act(
-    ledger: u8,
-    parts: Result<((Option<Place>, Option<Place>), Sum), RuleWhy>,
-) -> Result<Act, RuleWhy>
-    ensures { result ≡ entry_act_of ledger parts }
-{
-    let ((debit, credit), amount) = parts?;
+    let place = place_of(config.ledgers.as_slice(), ledger)?;
+    let chart = config
+        .ledgers
+        .get(usize::from(place))
+        .ok_or(RuleWhy::UnknownName)?;
+    let debit = resolved_side(alloc, kind, round, &sides.debit);
+    let credit = resolved_side(alloc, kind, round, &sides.credit);
+    let amount = resolved_sum(alloc, kind, round, Some(chart.scale), amount);
+    let ((debit, credit), amount) = both(both(debit, credit), amount)?;
     Ok(Act::Entry {
-        ledger,
+        ledger: place,
         debit,
         credit,
         amount,

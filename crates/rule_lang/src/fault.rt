@@ -1,10 +1,11 @@
 //! Why rules are refused.
 ghost use Rattle.std.specs.Prelude.{◌≡◌, IfOk, string_bytes};
-ghost use Rattle.rule_lang.specs.FaultTexts.{fault_text, words};
+ghost use Rattle.rule_lang.specs.FaultTexts.{rule_fault_text, words};
+ghost use Rattle.reg_base.specs.Numbers.{number_text};
 ghost use Rattle.rule_lang.specs.Least.{why_number, lesser as lesser_of};
 ghost use Rattle.rule_lang.specs.declared.fault.RuleFault.TheVariants.{Memory as WantOfMemory};
 
-use reg_base::{Memory, Name};
+use reg_base::{Memory, Name, sum_string};
 use std::alloc::{AllocError, AllocFailed, Global};
 
 /// The first fault of the rules of a configuration.
@@ -22,21 +23,31 @@ pub enum RuleFault {
 
 impl RuleFault {
     /// The text that a user reads: type, place and number of the reason, as `fill 35 1`.
-    #[tactic(auto, unfolding(crate::specs::FaultTexts::fault_text))]
+    #[tactic(auto, unfolding(crate::specs::FaultTexts::rule_fault_text))]
     pub fn text(&self, alloc: Global) -> Result<String, Memory>
-        ensures { IfOk result (λ t. string_bytes t ≡ fault_text self.now) }
+        ensures { IfOk result (λ t. string_bytes t ≡ rule_fault_text self.now) }
     {
         match self {
-            RuleFault::Wrong { kind, place, why } => text_of(alloc, kind, *place, why.number()),
+            RuleFault::Wrong { kind, place, why } => words_of(alloc, kind, *place, why.number()),
             RuleFault::Memory => Ok(String::from_str(alloc, "memory")?),
         }
     }
 }
 
-fn text_of(alloc: Global, kind: &Name, place: usize, number: u8) -> Result<String, Memory>
+fn words_of(alloc: Global, kind: &Name, place: usize, number: u8) -> Result<String, Memory>
     ensures { IfOk result (λ t. string_bytes t ≡ words kind.now place number) }
 {
+    let place = decimal(alloc, place as u64)?;
+    let number = decimal(alloc, u64::from(number))?;
     Ok(format!(in alloc; "{kind} {place} {number}")?)
+}
+
+// A whole number is a sum at scale 0.
+#[tactic(auto, unfolding(reg_base::specs::Numbers::sum_text, reg_base::specs::Numbers::units_text))]
+fn decimal(alloc: Global, number: u64) -> Result<String, Memory>
+    ensures { IfOk result (λ t. string_bytes t ≡ number_text number) }
+{
+    sum_string(alloc, i128::from(number), 0)
 }
 
 /// Why a statement is refused.
@@ -81,7 +92,7 @@ impl RuleWhy {
         }
     }
 
-    /// The reason of the lesser number.
+    // The reason of the lesser number.
     pub(crate) fn lesser(self, other: RuleWhy) -> RuleWhy
         ensures { result ≡ lesser_of self other }
     {

@@ -1,17 +1,18 @@
 //! Names as places in the configuration, and numbers as units at a scale.
 ghost use Rattle.std.specs.Prelude.{◌≡◌, ◌<◌, ◌≤◌, ◌^◌, List, ℕ, position as position_in};
 ghost use Rattle.std.specs.Str.{bytes_eq};
-ghost use Rattle.rule_lang.specs.Fields.{small_place as small_place_of, place_of as place_in, field_of as field_in, fits as scale_fits, number_field as number_field_in, code_field as code_field_in, units_at as units_at_scale};
+ghost use Rattle.rule_lang.specs.Fields.{small_place as small_place_of, place_of as place_in};
+ghost use Rattle.rule_lang.specs.Fields.{resolved_field as field_in, fits as scale_fits};
+ghost use Rattle.rule_lang.specs.Fields.{resolved_number_field as number_field_in};
+ghost use Rattle.rule_lang.specs.Fields.{resolved_code_field as code_field_in};
+ghost use Rattle.rule_lang.specs.Fields.{units_at as units_at_scale};
 
 use crate::RuleWhy;
 use cfg_model::{Chart, Dimension, Field, Register, Resource};
-use reg_base::{Name, Scale};
+use reg_base::{LARGEST_UNITS, Name, Scale, power_of_ten};
 use rule_text::{Literal, Spelling};
 
-/// The largest number in units.
-const LARGEST_UNITS: u64 = 999_999_999_999_999;
-
-/// What has a name.
+// What has a name.
 pub(crate) trait HasName {
     ghost name_of: { Self → List ℕ };
 
@@ -91,7 +92,7 @@ fn small_place(place: Option<usize>) -> Result<u8, RuleWhy>
     }
 }
 
-/// The place of the first of these that has the name.
+// The place of the first of these that has the name.
 #[tactic(auto, unfolding(crate::specs::Fields::place_of))]
 pub(crate) fn place_of<N: HasName>(items: &[N], spelling: &Spelling) -> Result<u8, RuleWhy>
     ensures { result ≡ place_in N.name_of items.now spelling.now }
@@ -108,15 +109,15 @@ fn position<N: HasName>(items: &[N], name: &Name) -> Option<usize>
     items.iter().position(|item| item.has_name(name))
 }
 
-/// A field's place, and the scale of its numbers, which is none for a code.
+// A field's place, and the scale of its numbers, which is none for a code.
 #[derive(Clone, Copy)]
 pub(crate) struct FieldAt {
     pub(crate) place: u8,
     pub(crate) scale: Option<Scale>,
 }
 
-#[tactic(auto, unfolding(crate::specs::Fields::field_of))]
-pub(crate) fn field_of(fields: &[Field], spelling: &Spelling) -> Result<FieldAt, RuleWhy>
+#[tactic(auto, unfolding(crate::specs::Fields::resolved_field))]
+pub(crate) fn resolved_field(fields: &[Field], spelling: &Spelling) -> Result<FieldAt, RuleWhy>
     ensures { result ≡ field_in fields.now spelling.now }
 {
     let place = place_of(fields, spelling)?;
@@ -129,7 +130,7 @@ pub(crate) fn field_of(fields: &[Field], spelling: &Spelling) -> Result<FieldAt,
     }
 }
 
-/// Whether a number of the second scale stands where the first is asked for, if one is.
+// Whether a number of the second scale stands where the first is asked for, if one is.
 pub(crate) fn fits(asked: Option<Scale>, scale: Option<Scale>) -> bool
     ensures { result ≡ scale_fits asked scale }
 {
@@ -140,35 +141,35 @@ pub(crate) fn fits(asked: Option<Scale>, scale: Option<Scale>) -> bool
     }
 }
 
-/// A field with numbers of the scale that is asked for.
-#[tactic(auto, unfolding(crate::specs::Fields::number_field))]
-pub(crate) fn number_field(
+// A field with numbers of the scale that is asked for.
+#[tactic(auto, unfolding(crate::specs::Fields::resolved_number_field))]
+pub(crate) fn resolved_number_field(
     fields: &[Field],
     asked: Option<Scale>,
     spelling: &Spelling,
 ) -> Result<u8, RuleWhy>
     ensures { result ≡ number_field_in fields.now asked spelling.now }
 {
-    let found = field_of(fields, spelling)?;
+    let found = resolved_field(fields, spelling)?;
     if !fits(asked, found.scale) {
         return Err(RuleWhy::WrongType);
     }
     Ok(found.place)
 }
 
-/// A field with codes.
-#[tactic(auto, unfolding(crate::specs::Fields::code_field))]
-pub(crate) fn code_field(fields: &[Field], spelling: &Spelling) -> Result<u8, RuleWhy>
+// A field with codes.
+#[tactic(auto, unfolding(crate::specs::Fields::resolved_code_field))]
+pub(crate) fn resolved_code_field(fields: &[Field], spelling: &Spelling) -> Result<u8, RuleWhy>
     ensures { result ≡ code_field_in fields.now spelling.now }
 {
-    let found = field_of(fields, spelling)?;
+    let found = resolved_field(fields, spelling)?;
     if found.scale.is_some() {
         return Err(RuleWhy::WrongType);
     }
     Ok(found.place)
 }
 
-/// The units of a number at a scale: not more decimals than that, and not too large.
+// The units of a number at a scale: not more decimals than that, and not too large.
 #[tactic(auto, unfolding(crate::specs::Fields::units_at))]
 pub(crate) fn units_at(literal: &Literal, scale: Scale) -> Option<i64>
     ensures { result ≡ units_at_scale literal.now scale }
@@ -183,21 +184,4 @@ pub(crate) fn units_at(literal: &Literal, scale: Scale) -> Option<i64>
         return None;
     }
     Some(units as i64)
-}
-
-/// Ten to a power of at most six.
-fn power_of_ten(exponent: u8) -> u64
-    requires { exponent ≤ 6 }
-    ensures value { result ≡ 10 ^ exponent }
-    ensures positive { 0 < result }
-{
-    match exponent {
-        0 => 1,
-        1 => 10,
-        2 => 100,
-        3 => 1_000,
-        4 => 10_000,
-        5 => 100_000,
-        _ => 1_000_000,
-    }
 }

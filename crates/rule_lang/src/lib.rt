@@ -7,9 +7,9 @@
 //! what a text says.
 //!
 //! Promises: `Rules::read` gives exactly the rules of a configuration, or their first fault. Each
-//! place that an accepted statement names is there, with its sort and scale, and the statements of
-//! a type in a sequence keep it. `Rules::print` writes exactly the canonical text of a type, which
-//! is read back to the same statements.
+//! name of an accepted statement is the place of what has it, each literal its value in the units
+//! of its place, and the statements of a type in a sequence keep it. `Rules::print` writes exactly
+//! the canonical text of a type, which is read back to the same statements.
 //!
 //! Leaves open: when memory is refused.
 #![tactic(auto)]
@@ -33,6 +33,7 @@ mod spelt;
 mod statement;
 mod term_texts;
 mod terms;
+mod tried;
 mod write_offs;
 
 pub use fault::{RuleFault, RuleWhy};

@@ -1,14 +1,16 @@
 //! Receipts, expenses and turns.
-ghost use Rattle.std.specs.Prelude.{◌≡◌, IfOk};
-ghost use Rattle.rule_lang.specs.Makes.{suits as suits_register, make_fits as make_fits_in, make_act as make_act_of, made as made_in, make_of as make_in};
+ghost use Rattle.std.specs.Prelude.{◌≡◌};
+ghost use Rattle.rule_lang.specs.Makes.{suits as suits_register, make_fits as make_fits_in};
+ghost use Rattle.rule_lang.specs.Makes.{resolved_record as made_in, resolved_make as make_in};
+ghost use Rattle.rule_lang.specs.Resolves.{Resolves};
 
-use crate::binds::{all_bound, amounts_of, binds_of, none_twice};
+use crate::binds::{amounts_of, binds_each_dimension, binds_of, none_twice};
 use crate::fields::place_of;
-use crate::least::{Tried, beside, both};
+use crate::least::{beside, both};
 use crate::terms::Round;
-use crate::{Act, Bind, RuleWhy, Sum};
+use crate::tried::Tried;
+use crate::{Act, RuleWhy};
 use cfg_model::{Config, Kind, Register};
-use reg_base::List;
 use rule_text::{PlainAmount, PlainBind, Target, Verb};
 use std::alloc::Global;
 
@@ -30,7 +32,7 @@ fn make_fits(
 ) -> Result<(), RuleWhy>
     ensures { result ≡ make_fits_in verb register.now binds.now sums.now }
 {
-    if !all_bound(false, register, binds) {
+    if !binds_each_dimension(false, register, binds) {
         return Err(RuleWhy::Unbound);
     }
     if !none_twice(binds) {
@@ -45,9 +47,9 @@ fn make_fits(
     Ok(())
 }
 
-/// Receipt, expense, turn.
-#[tactic(auto, unfolding(crate::specs::Makes::make_of))]
-pub(crate) fn make_of(
+// Receipt, expense, turn.
+#[tactic(auto, unfolding(crate::specs::Makes::resolved_make))]
+pub(crate) fn resolved_make(
     alloc: Global,
     config: &Config,
     kind: &Kind,
@@ -56,17 +58,15 @@ pub(crate) fn make_of(
     target: &Target,
     sums: &[PlainAmount],
 ) -> Tried<Act>
-    ensures { IfOk result (λ tried. tried ≡ make_in config.now kind.now round.now verb target.now
+    ensures { Resolves result (make_in config.now kind.now round.now verb target.now
         sums.now) }
 {
-    let place = match place_of(config.registers.as_slice(), &target.register) {
-        Ok(place) => place,
-        Err(why) => return Ok(Err(why)),
-    };
-    let Some(register) = config.registers.get(usize::from(place)) else {
-        return Ok(Err(RuleWhy::UnknownName));
-    };
-    made(
+    let place = place_of(config.registers.as_slice(), &target.register)?;
+    let register = config
+        .registers
+        .get(usize::from(place))
+        .ok_or(RuleWhy::UnknownName)?;
+    resolved_record(
         alloc,
         kind,
         round,
@@ -78,9 +78,9 @@ pub(crate) fn make_of(
     )
 }
 
-/// A record of the register at the place.
-#[tactic(auto, unfolding(crate::specs::Makes::made))]
-fn made(
+// A record of the register at the place.
+#[tactic(auto, unfolding(crate::specs::Makes::resolved_record, crate::specs::Makes::make_act))]
+fn resolved_record(
     alloc: Global,
     kind: &Kind,
     round: &Round,
@@ -90,27 +90,16 @@ fn made(
     binds: &[PlainBind],
     sums: &[PlainAmount],
 ) -> Tried<Act>
-    ensures { IfOk result (λ tried. tried ≡ made_in kind.now round.now place register.now verb
+    ensures { Resolves result (made_in kind.now round.now place register.now verb
         binds.now sums.now) }
 {
     let fits = make_fits(verb, register, binds, sums);
-    let bound = binds_of(alloc, kind, round, register, binds)?;
-    let amounts = amounts_of(alloc, kind, round, register, sums)?;
-    Ok(make_act(verb, place, beside(fits, both(bound, amounts))))
-}
-
-#[tactic(auto, unfolding(crate::specs::Makes::make_act))]
-fn make_act(
-    verb: Verb,
-    register: u8,
-    parts: Result<(List<Bind>, List<(u8, Sum)>), RuleWhy>,
-) -> Result<Act, RuleWhy>
-    ensures { result ≡ make_act_of verb register parts }
-{
-    let (binds, sums) = parts?;
+    let bound = binds_of(alloc, kind, round, register, binds);
+    let amounts = amounts_of(alloc, kind, round, register, sums);
+    let (binds, sums) = beside(fits, both(bound, amounts))?;
     Ok(Act::Make {
         verb,
-        register,
+        register: place,
         binds,
         sums,
     })

@@ -1,7 +1,11 @@
 //! The canonical text of rules.
-ghost use Rattle.std.specs.Prelude.{◌≡◌, ◌++◌, IfOk, OnOk, OnErr, None, slice_get, string_bytes};
-ghost use Rattle.rule_lang.specs.TermTexts.{text_if};
-ghost use Rattle.rule_lang.specs.RuleTexts.{scope_text as scope_text_of, statement_text as statement_text_of, cost_of as cost_of_scope, statements_text as statements_text_of, rules_text as rules_text_of};
+ghost use Rattle.std.specs.Prelude.{◌≡◌, ◌<◌, ◌++◌, IfOk, OnOk, OnErr, List, Some, length};
+ghost use Rattle.std.specs.Prelude.{slice_get, string_bytes};
+ghost use Rattle.cfg_model.specs.declared.kind.Kind.{Kind};
+ghost use Rattle.rule_lang.specs.declared.statement.Statement.{Statement};
+ghost use Rattle.rule_lang.specs.RuleTexts.{scope_text as scope_text_of};
+ghost use Rattle.rule_lang.specs.RuleTexts.{statement_text as statement_text_of};
+ghost use Rattle.rule_lang.specs.RuleTexts.{cost_of as cost_of_scope, rules_text as rules_text_of};
 
 use crate::act_texts::act_text;
 use crate::costs::{Costs, costs_after};
@@ -13,54 +17,41 @@ use std::alloc::Global;
 
 impl Rules {
     /// Appends the canonical text of the statements of the document type at the place, each on a
-    /// line of its own. Nothing is appended where there is no such type.
+    /// line of its own.
     pub fn print(
         &self,
         alloc: Global,
         config: &Config,
-        kind: usize,
+        kind: u8,
         out: &mut Vec<u8>,
     ) -> Result<(), Memory>
-        ensures ok { OnOk result (out.new.items ≡ out.old.items
-            ++ text_if (rules_text_of config.now kind) (slice_get self.now.kinds kind)) }
+        requires known { kind < length config.now.kinds }
+        requires read { kind < length self.now.kinds }
+        ensures ok { (of : Kind) (statements : List Statement)
+            → slice_get config.now.kinds kind ≡ Some of
+            → slice_get self.now.kinds kind ≡ Some statements
+            → OnOk result (out.new.items
+            ≡ out.old.items ++ rules_text_of config.now of statements) }
         ensures err { OnErr result (out.new.items ≡ out.old.items) }
     {
-        let text = match self.kinds.get(kind) {
-            Some(statements) => rules_text(alloc, config, kind, statements.as_slice())?,
-            None => String::new(alloc),
-        };
+        let of = &config.kinds.as_slice()[usize::from(kind)];
+        let statements = &self.kinds.as_slice()[usize::from(kind)];
+        let text = rules_text(alloc, config, of, statements.as_slice())?;
         out.extend_from_slice(text.as_bytes())?;
         Ok(())
     }
 }
 
-/// The statements of the type at the place.
-#[tactic(auto, unfolding(crate::specs::RuleTexts::rules_text))]
+// The statements of a type, one behind another.
+#[tactic(auto, using(crate::proofs::PrintLemmas::statements), unfolding(crate::specs::RuleTexts::rules_text))]
 fn rules_text(
-    alloc: Global,
-    config: &Config,
-    place: usize,
-    statements: &[Statement],
-) -> Result<String, Memory>
-    ensures { IfOk result
-        (λ t. string_bytes t ≡ rules_text_of config.now place statements.now) }
-{
-    match config.kinds.get(place) {
-        Some(kind) => statements_text(alloc, config, kind, statements),
-        None => Ok(String::new(alloc)),
-    }
-}
-
-/// Statements one behind another.
-#[tactic(auto, using(crate::proofs::PrintLemmas::statements))]
-fn statements_text(
     alloc: Global,
     config: &Config,
     kind: &Kind,
     statements: &[Statement],
 ) -> Result<String, Memory>
-    ensures { IfOk result (λ t. string_bytes t ≡ statements_text_of config.now kind.now
-        (record { once = None; each = None }) statements.now) }
+    ensures { IfOk result
+        (λ t. string_bytes t ≡ rules_text_of config.now kind.now statements.now) }
 {
     let mut text = String::new(alloc);
     let mut costs = Costs {
@@ -75,7 +66,7 @@ fn statements_text(
     Ok(text)
 }
 
-/// A statement behind those that left these costs.
+// A statement behind those that left these costs.
 #[tactic(auto, unfolding(crate::specs::RuleTexts::statement_text))]
 fn statement_text(
     alloc: Global,
@@ -94,7 +85,7 @@ fn statement_text(
     Ok(format!(in alloc; "{scope}{act}{when};\n")?)
 }
 
-/// The scope, which a control has not.
+// The scope, which a control has not.
 #[tactic(auto, unfolding(crate::specs::RuleTexts::scope_text))]
 fn scope_text(each: bool, act: &Act) -> &'static str
     ensures { result.now ≡ scope_text_of each act.now }
@@ -105,7 +96,7 @@ fn scope_text(each: bool, act: &Act) -> &'static str
     }
 }
 
-/// The scale of the latest write-off of a scope.
+// The scale of the latest write-off of a scope.
 fn cost_of(costs: &Costs, each: bool) -> Option<Scale>
     ensures { result ≡ cost_of_scope costs.now each }
 {

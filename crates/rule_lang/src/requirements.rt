@@ -1,14 +1,19 @@
 //! What is required of a register, and what is controlled.
-ghost use Rattle.std.specs.Prelude.{◌≡◌, IfOk};
-ghost use Rattle.rule_lang.specs.Requirements.{require_act as require_act_of, require_fits as require_fits_in, required as required_in, require_of as require_in, control_of as control_in};
+ghost use Rattle.std.specs.Prelude.{◌≡◌};
+ghost use Rattle.rule_lang.specs.Requirements.{require_fits as require_fits_in};
+ghost use Rattle.rule_lang.specs.Requirements.{resolved_requirement as required_in};
+ghost use Rattle.rule_lang.specs.Requirements.{resolved_require as require_in};
+ghost use Rattle.rule_lang.specs.Requirements.{resolved_control as control_in};
+ghost use Rattle.rule_lang.specs.Resolves.{Resolves};
 
 use crate::binds::{binds_of, none_twice};
 use crate::fields::place_of;
-use crate::least::{Tried, beside, both};
-use crate::terms::{Round, sum_of};
-use crate::{Act, Bind, RuleWhy, Sum};
+use crate::least::{beside, both};
+use crate::terms::{Round, resolved_sum};
+use crate::tried::Tried;
+use crate::{Act, RuleWhy};
 use cfg_model::{Config, Kind, Register};
-use reg_base::{Code, List, Scale};
+use reg_base::{Code, Scale};
 use rule_text::{PlainBind, PlainTerm, Spelling, Target};
 use std::alloc::Global;
 
@@ -25,9 +30,9 @@ fn require_fits(register: &Register, binds: &[PlainBind]) -> Result<(), RuleWhy>
     Ok(())
 }
 
-/// Require.
-#[tactic(auto, unfolding(crate::specs::Requirements::require_of))]
-pub(crate) fn require_of(
+// Require.
+#[tactic(auto, unfolding(crate::specs::Requirements::resolved_require))]
+pub(crate) fn resolved_require(
     alloc: Global,
     config: &Config,
     kind: &Kind,
@@ -37,25 +42,21 @@ pub(crate) fn require_of(
     least: &[PlainTerm],
     code: &Code,
 ) -> Tried<Act>
-    ensures { IfOk result (λ tried. tried ≡ require_in config.now kind.now round.now target.now
+    ensures { Resolves result (require_in config.now kind.now round.now target.now
         word.now least.now code.now) }
 {
-    let place = match place_of(config.registers.as_slice(), &target.register) {
-        Ok(place) => place,
-        Err(why) => return Ok(Err(why)),
-    };
-    let Some(register) = config.registers.get(usize::from(place)) else {
-        return Ok(Err(RuleWhy::UnknownName));
-    };
-    let at = match place_of(register.resources.as_slice(), word) {
-        Ok(at) => at,
-        Err(why) => return Ok(Err(why)),
-    };
-    let Some(resource) = register.resources.get(usize::from(at)) else {
-        return Ok(Err(RuleWhy::UnknownName));
-    };
+    let place = place_of(config.registers.as_slice(), &target.register)?;
+    let register = config
+        .registers
+        .get(usize::from(place))
+        .ok_or(RuleWhy::UnknownName)?;
+    let at = place_of(register.resources.as_slice(), word)?;
+    let resource = register
+        .resources
+        .get(usize::from(at))
+        .ok_or(RuleWhy::UnknownName)?;
     let binds = target.binds.as_slice();
-    required(
+    resolved_requirement(
         alloc,
         kind,
         round,
@@ -69,9 +70,9 @@ pub(crate) fn require_of(
     )
 }
 
-/// What is required of the register at the place.
-#[tactic(auto, unfolding(crate::specs::Requirements::required))]
-fn required(
+// What is required of the register at the place.
+#[tactic(auto, unfolding(crate::specs::Requirements::resolved_requirement, crate::specs::Requirements::require_act))]
+fn resolved_requirement(
     alloc: Global,
     kind: &Kind,
     round: &Round,
@@ -83,37 +84,25 @@ fn required(
     least: &[PlainTerm],
     code: &Code,
 ) -> Tried<Act>
-    ensures { IfOk result (λ tried. tried ≡ required_in kind.now round.now place register.now
+    ensures { Resolves result (required_in kind.now round.now place register.now
         binds.now at scale least.now code.now) }
 {
     let fits = require_fits(register, binds);
-    let bound = binds_of(alloc, kind, round, register, binds)?;
-    let least = sum_of(alloc, kind, round, Some(scale), least)?;
-    Ok(require_act(place, at, code, beside(fits, both(bound, least))))
-}
-
-#[tactic(auto, unfolding(crate::specs::Requirements::require_act))]
-fn require_act(
-    register: u8,
-    resource: u8,
-    code: &Code,
-    parts: Result<(List<Bind>, Sum), RuleWhy>,
-) -> Result<Act, RuleWhy>
-    ensures { result ≡ require_act_of register resource code.now parts }
-{
-    let (binds, least) = parts?;
+    let bound = binds_of(alloc, kind, round, register, binds);
+    let least = resolved_sum(alloc, kind, round, Some(scale), least);
+    let (binds, least) = beside(fits, both(bound, least))?;
     Ok(Act::Require {
-        register,
+        register: place,
         binds,
-        resource,
+        resource: at,
         least,
         code: *code,
     })
 }
 
-/// Control.
-#[tactic(auto, unfolding(crate::specs::Requirements::control_of))]
-pub(crate) fn control_of(
+// Control.
+#[tactic(auto, unfolding(crate::specs::Requirements::resolved_control))]
+pub(crate) fn resolved_control(
     config: &Config,
     register: &Spelling,
     resource: &Spelling,
@@ -121,9 +110,10 @@ pub(crate) fn control_of(
     ensures { result ≡ control_in config.now register.now resource.now }
 {
     let place = place_of(config.registers.as_slice(), register)?;
-    let Some(of) = config.registers.get(usize::from(place)) else {
-        return Err(RuleWhy::UnknownName);
-    };
+    let of = config
+        .registers
+        .get(usize::from(place))
+        .ok_or(RuleWhy::UnknownName)?;
     let at = place_of(of.resources.as_slice(), resource)?;
     if !of.balance {
         return Err(RuleWhy::WrongRegister);

@@ -1,16 +1,25 @@
 //! The rules of a configuration, read from the texts of its document types.
-ghost use Rattle.std.specs.Prelude.{◌≡◌, None, IfOk};
+ghost use Rattle.std.specs.Prelude.{◌≡◌, None, Ok};
 ghost use Rattle.reg_base.specs.Results.{Gives, GivesAs};
-ghost use Rattle.rule_lang.specs.Rules.{is_control as is_control_act, scope_fits as scope_fits_in, when_of as when_in, last_fits as last_fits_in, finished as finished_in, statement_in as statement_in_round, statement_of as statement_read, statements_from as statements_in, fault_at as fault_in, read_for as read_in, kind_rules as kind_rules_in, rules_of};
+ghost use Rattle.rule_lang.specs.Rules.{is_control as is_control_act, scope_fits as scope_fits_in};
+ghost use Rattle.rule_lang.specs.Rules.{resolved_when as when_in, last_fits as last_fits_in};
+ghost use Rattle.rule_lang.specs.Rules.{statement_if_fit as finished_in};
+ghost use Rattle.rule_lang.specs.Rules.{resolved_statement_in as statement_in_round};
+ghost use Rattle.rule_lang.specs.Rules.{resolved_statement as statement_read};
+ghost use Rattle.rule_lang.specs.Rules.{statements_from as statements_in};
+ghost use Rattle.rule_lang.specs.Rules.{fault_in_kind as fault_in, read_for as read_in};
+ghost use Rattle.rule_lang.specs.Rules.{kind_rules as kind_rules_in, rules_of};
 ghost use Rattle.rule_lang.specs.declared.fault.RuleFault.TheVariants.{Memory as WantOfMemory};
 ghost use Rattle.rule_text.specs.Sentences.{statements_of};
+ghost use Rattle.rule_lang.specs.Resolves.{Resolves};
 
-use crate::acts::act_of;
-use crate::conditions::cond_of;
+use crate::acts::resolved_act;
+use crate::conditions::resolved_cond;
 use crate::costs::{Costs, costs_after, round_of};
-use crate::least::{Tried, beside, both};
+use crate::least::{beside, both};
 use crate::sequences::keeps_sequences;
 use crate::terms::Round;
+use crate::tried::{StatementFault, Tried};
 use crate::{Act, Cond, RuleFault, RuleWhy, Statement};
 use cfg_model::{Config, Kind};
 use reg_base::List;
@@ -43,7 +52,7 @@ impl Rules {
     }
 }
 
-/// What the text of a type says.
+// What the text of a type says.
 fn read_plain(alloc: Global, kind: &Kind) -> Result<List<PlainStatement>, RuleFault>
     ensures { Gives WantOfMemory result (read_in kind.now (statements_of kind.now.rules)) }
 {
@@ -58,7 +67,7 @@ fn read_plain(alloc: Global, kind: &Kind) -> Result<List<PlainStatement>, RuleFa
     }
 }
 
-/// The statements of a type: its text is read whole before the first of them is looked at.
+// The statements of a type: its text is read whole before the first of them is looked at.
 #[tactic(auto, unfolding(crate::specs::Rules::kind_rules))]
 fn kind_rules(alloc: Global, config: &Config, kind: &Kind) -> Result<List<Statement>, RuleFault>
     ensures { Gives WantOfMemory result (kind_rules_in config.now kind.now) }
@@ -67,7 +76,7 @@ fn kind_rules(alloc: Global, config: &Config, kind: &Kind) -> Result<List<Statem
     statements_of_kind(alloc, config, kind, plains.as_slice())
 }
 
-/// The statements of a type, or the first that is wrong.
+// The statements of a type, or the first that is wrong.
 #[tactic(auto, using(crate::proofs::RuleLemmas::statements))]
 fn statements_of_kind(
     alloc: Global,
@@ -91,7 +100,7 @@ fn statements_of_kind(
     Ok(List::from_vec(statements))
 }
 
-/// A statement, or its fault at its first byte.
+// A statement, or its fault at its first byte.
 fn statement_at(
     alloc: Global,
     config: &Config,
@@ -103,13 +112,14 @@ fn statement_at(
     ensures { Gives WantOfMemory result (fault_in kind.now plain.now.place
         (statement_read config.now kind.now costs.now before plain.now)) }
 {
-    match statement_of(alloc, config, kind, costs, before, plain)? {
+    match resolved_statement(alloc, config, kind, costs, before, plain) {
         Ok(statement) => Ok(statement),
-        Err(why) => Err(RuleFault::Wrong {
+        Err(StatementFault::Wrong(why)) => Err(RuleFault::Wrong {
             kind: kind.name,
             place: plain.place,
             why,
         }),
+        Err(StatementFault::Memory) => Err(RuleFault::Memory),
     }
 }
 
@@ -122,7 +132,7 @@ fn is_control(act: &PlainAct) -> bool
     }
 }
 
-/// A control has no scope and no condition.
+// A control has no scope and no condition.
 #[tactic(auto, unfolding(crate::specs::Rules::scope_fits))]
 fn scope_fits(plain: &PlainStatement) -> Result<(), RuleWhy>
     ensures { result ≡ scope_fits_in plain.now }
@@ -133,28 +143,25 @@ fn scope_fits(plain: &PlainStatement) -> Result<(), RuleWhy>
     Ok(())
 }
 
-/// A condition, where there is one.
-#[tactic(auto, unfolding(crate::specs::Rules::when_of))]
-fn when_of(
+// A condition, where there is one.
+#[tactic(auto, unfolding(crate::specs::Rules::resolved_when))]
+fn resolved_when(
     alloc: Global,
     kind: &Kind,
     round: &Round,
     plain: &Option<PlainCond>,
 ) -> Tried<Option<Cond>>
-    ensures { IfOk result (λ tried. tried ≡ when_in kind.now round.now plain.now) }
+    ensures { Resolves result (when_in kind.now round.now plain.now) }
 {
     match plain {
-        None => Ok(Ok(None)),
-        Some(plain) => match cond_of(alloc, kind, round, plain)? {
-            Ok(cond) => Ok(Ok(Some(cond))),
-            Err(why) => Ok(Err(why)),
-        },
+        None => Ok(None),
+        Some(plain) => Ok(Some(resolved_cond(alloc, kind, round, plain)?)),
     }
 }
 
-/// A statement that so many are before.
-#[tactic(auto, unfolding(crate::specs::Rules::statement_of))]
-fn statement_of(
+// A statement that so many are before.
+#[tactic(auto, unfolding(crate::specs::Rules::resolved_statement))]
+fn resolved_statement(
     alloc: Global,
     config: &Config,
     kind: &Kind,
@@ -162,16 +169,16 @@ fn statement_of(
     before: usize,
     plain: &PlainStatement,
 ) -> Tried<Statement>
-    ensures { IfOk result (λ tried. tried ≡ statement_read config.now kind.now costs.now before
+    ensures { Resolves result (statement_read config.now kind.now costs.now before
         plain.now) }
 {
     let round = round_of(costs, &plain.scope);
-    statement_in(alloc, config, kind, &round, before, plain)
+    resolved_statement_in(alloc, config, kind, &round, before, plain)
 }
 
-/// A statement in its round, that so many are before.
-#[tactic(auto, unfolding(crate::specs::Rules::statement_in))]
-fn statement_in(
+// A statement in its round, that so many are before.
+#[tactic(auto, unfolding(crate::specs::Rules::resolved_statement_in, crate::specs::Rules::statement_if_fit))]
+fn resolved_statement_in(
     alloc: Global,
     config: &Config,
     kind: &Kind,
@@ -179,32 +186,32 @@ fn statement_in(
     before: usize,
     plain: &PlainStatement,
 ) -> Tried<Statement>
-    ensures { IfOk result (λ tried. tried ≡ statement_in_round config.now kind.now round.now
+    ensures { Resolves result (statement_in_round config.now kind.now round.now
         before plain.now) }
 {
-    let act = act_of(alloc, config, kind, round, &plain.act)?;
-    let when = when_of(alloc, kind, round, &plain.when)?;
-    let parts = beside(scope_fits(plain), both(act, when));
-    Ok(finished(config, kind, before, round.each, parts))
+    let act = resolved_act(alloc, config, kind, round, &plain.act);
+    let when = resolved_when(alloc, kind, round, &plain.when);
+    let (act, when) = beside(scope_fits(plain), both(act, when))?;
+    statement_if_fit(config, kind, before, round.each, act, when)
 }
 
-/// A statement of its parts, that so many are before.
-#[tactic(auto, unfolding(crate::specs::Rules::finished))]
-fn finished(
+// A statement of its parts, that so many are before.
+#[tactic(auto, unfolding(crate::specs::Rules::statement_if_fit))]
+fn statement_if_fit(
     config: &Config,
     kind: &Kind,
     before: usize,
     each: bool,
-    parts: Result<(Act, Option<Cond>), RuleWhy>,
-) -> Result<Statement, RuleWhy>
-    ensures { result ≡ finished_in config.now kind.now before each parts }
+    act: Act,
+    when: Option<Cond>,
+) -> Tried<Statement>
+    ensures { Resolves result (finished_in config.now kind.now before each (Ok (act, when))) }
 {
-    let (act, when) = parts?;
     last_fits(config, kind, before, &act)?;
     Ok(Statement { each, act, when })
 }
 
-/// Not too many are before, and the sequences are kept.
+// Not too many are before, and the sequences are kept.
 #[tactic(auto, unfolding(crate::specs::Rules::last_fits))]
 fn last_fits(config: &Config, kind: &Kind, before: usize, act: &Act) -> Result<(), RuleWhy>
     ensures { result ≡ last_fits_in config.now kind.now before act.now }

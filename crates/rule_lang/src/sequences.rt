@@ -1,6 +1,14 @@
 //! What a sequence asks of the statements of its document types.
 ghost use Rattle.std.specs.Prelude.{◌≡◌};
-ghost use Rattle.rule_lang.specs.Sequences.{is_among as is_among_names, is_head_field as is_head_field_of, is_dimension as is_dimension_of, binds_head as binds_head_of, all_bound as all_bound_of, all_kept as all_kept_of, sequence_fits as sequence_fits_of, sequences_fit as sequences_fit_of, kept_by, keeps_sequences as keeps_of};
+ghost use Rattle.rule_lang.specs.Sequences.{is_among as is_among_names};
+ghost use Rattle.rule_lang.specs.Sequences.{is_head_field as is_head_field_of};
+ghost use Rattle.rule_lang.specs.Sequences.{is_dimension as is_dimension_of};
+ghost use Rattle.rule_lang.specs.Sequences.{binds_head as binds_head_of};
+ghost use Rattle.rule_lang.specs.Sequences.{binds_each_head as all_bound_of};
+ghost use Rattle.rule_lang.specs.Sequences.{all_kept as all_kept_of};
+ghost use Rattle.rule_lang.specs.Sequences.{sequence_fits as sequence_fits_of};
+ghost use Rattle.rule_lang.specs.Sequences.{sequences_fit as sequences_fit_of, kept_by};
+ghost use Rattle.rule_lang.specs.Sequences.{keeps_sequences as keeps_of};
 
 use crate::{Act, Bind, BindTo, CodeTerm};
 use cfg_model::{Config, Dimension, Field, Kind, Register, Sequence};
@@ -12,7 +20,7 @@ fn is_among(names: &[Name], name: &Name) -> bool
     names.iter().any(|n| *n == *name)
 }
 
-/// Whether the value is a field of the head that has the name.
+// Whether the value is a field of the head that has the name.
 fn is_head_field(head: &[Field], name: &Name, to: &BindTo) -> bool
     ensures { result ≡ is_head_field_of head.now name.now to.now }
 {
@@ -25,7 +33,7 @@ fn is_head_field(head: &[Field], name: &Name, to: &BindTo) -> bool
     }
 }
 
-/// Whether the dimension at the place has the name.
+// Whether the dimension at the place has the name.
 fn is_dimension(dimensions: &[Dimension], name: &Name, place: u8) -> bool
     ensures { result ≡ is_dimension_of dimensions.now name.now place }
 {
@@ -35,7 +43,7 @@ fn is_dimension(dimensions: &[Dimension], name: &Name, place: u8) -> bool
     }
 }
 
-/// Whether the dimension of this name is bound to the head's field of that name.
+// Whether the dimension of this name is bound to the head's field of that name.
 fn binds_head(register: &Register, kind: &Kind, binds: &[Bind], name: &Name) -> bool
     ensures { result ≡ binds_head_of register.now kind.now binds.now name.now }
 {
@@ -45,8 +53,8 @@ fn binds_head(register: &Register, kind: &Kind, binds: &[Bind], name: &Name) -> 
         && is_head_field(head, name, &b.to))
 }
 
-/// Whether each of the names is bound to the head's field of that name.
-fn all_bound(register: &Register, kind: &Kind, binds: &[Bind], names: &[Name]) -> bool
+// Whether each of the names is bound to the head's field of that name.
+fn binds_each_head(register: &Register, kind: &Kind, binds: &[Bind], names: &[Name]) -> bool
     ensures { result ≡ all_bound_of register.now kind.now binds.now names.now }
 {
     'names: for name in names {
@@ -57,7 +65,7 @@ fn all_bound(register: &Register, kind: &Kind, binds: &[Bind], names: &[Name]) -
     true
 }
 
-/// A statement on a register keeps the order of the sequence.
+// A statement on a register keeps the order of the sequence.
 #[tactic(auto, unfolding(crate::specs::Sequences::sequence_fits))]
 fn sequence_fits(
     register: &Register,
@@ -69,13 +77,13 @@ fn sequence_fits(
     ensures { result ≡ sequence_fits_of register.now kind.now binds.now reads sequence.now }
 {
     if is_among(sequence.registers.as_slice(), &register.name) {
-        all_bound(register, kind, binds, sequence.dimensions.as_slice())
+        binds_each_head(register, kind, binds, sequence.dimensions.as_slice())
     } else {
         !reads
     }
 }
 
-/// The sequence is kept, where the type stands in it.
+// The sequence is kept, where the type stands in it.
 fn is_kept(
     register: &Register,
     kind: &Kind,
@@ -89,7 +97,7 @@ fn is_kept(
         || sequence_fits(register, kind, binds, reads, sequence)
 }
 
-/// Whether each of the sequences is kept.
+// Whether each of the sequences is kept.
 fn all_kept(
     register: &Register,
     kind: &Kind,
@@ -107,7 +115,7 @@ fn all_kept(
     true
 }
 
-/// The sequences that the type stands in are kept by a statement on this register.
+// The sequences that the type stands in are kept by a statement on this register.
 #[tactic(auto, unfolding(crate::specs::Sequences::sequences_fit))]
 fn sequences_fit(config: &Config, kind: &Kind, place: u8, binds: &[Bind], reads: bool) -> bool
     ensures { result ≡ sequences_fit_of config.now kind.now place binds.now reads }
@@ -118,7 +126,7 @@ fn sequences_fit(config: &Config, kind: &Kind, place: u8, binds: &[Bind], reads:
     all_kept(register, kind, binds, reads, config.sequences.as_slice())
 }
 
-/// The sequences that the type stands in are kept by the act.
+// The sequences that the type stands in are kept by the act.
 #[tactic(auto, unfolding(crate::specs::Sequences::keeps_sequences))]
 pub(crate) fn keeps_sequences(config: &Config, kind: &Kind, act: &Act) -> bool
     ensures { result ≡ keeps_of config.now kind.now act.now }

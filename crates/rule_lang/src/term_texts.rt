@@ -1,49 +1,54 @@
 //! The canonical text of codes, sums and conditions.
 ghost use Rattle.std.specs.Prelude.{◌≡◌, ◌++◌, IfOk, Some, codes, string_bytes};
-ghost use Rattle.rule_lang.specs.TermTexts.{code_text as code_text_of, units_text as units_text_of, part_text as part_text_of, term_text as term_text_of, terms_text as terms_text_of, joint_text as joint_text_of, test_text as test_text_of, equal_text as equal_text_of, field_scale as field_scale_of, part_scale as part_scale_of, terms_scale as terms_scale_of, cond_text as cond_text_of, when_text as when_text_of};
+ghost use Rattle.rule_lang.specs.TermTexts.{code_text as code_text_of};
+ghost use Rattle.rule_lang.specs.TermTexts.{units_at_scale_text as units_text_of};
+ghost use Rattle.rule_lang.specs.TermTexts.{part_text as part_text_of, term_text as term_text_of};
+ghost use Rattle.rule_lang.specs.TermTexts.{terms_text as terms_text_of};
+ghost use Rattle.rule_lang.specs.TermTexts.{joint_text as joint_text_of, test_text as test_text_of};
+ghost use Rattle.rule_lang.specs.TermTexts.{equal_text as equal_text_of};
+ghost use Rattle.rule_lang.specs.TermTexts.{field_scale as field_scale_of};
+ghost use Rattle.rule_lang.specs.TermTexts.{part_scale as part_scale_of};
+ghost use Rattle.rule_lang.specs.TermTexts.{terms_scale as terms_scale_of};
+ghost use Rattle.rule_lang.specs.TermTexts.{cond_text as cond_text_of, when_text as when_text_of};
 
-use crate::spelt::{Spelt, listed, name_at};
+use crate::spelt::{Spelt, list_text, name_of_place};
 use crate::{CodeTerm, Cond, Part, Sum, Term};
 use cfg_model::{Field, Kind};
-use reg_base::{Memory, Scale, sum_string};
+use reg_base::{Memory, Scale, join_texts, string_of, sum_string};
 use rule_text::Test;
 use std::alloc::Global;
 
-/// Where a sum is written: a document type, and the scale of its numbers.
+// Where a sum is written: a document type, and the scale of its numbers.
 #[derive(Drop)]
 pub(crate) struct SumScene<'a> {
     kind: &'a Kind,
     scale: Option<Scale>,
 }
 
-/// A code between quotes, or a field.
+// A code between quotes, or a field.
 #[tactic(auto, unfolding(crate::specs::TermTexts::code_text))]
 pub(crate) fn code_text(alloc: Global, kind: &Kind, code: &CodeTerm) -> Result<String, Memory>
     ensures { IfOk result (λ t. string_bytes t ≡ code_text_of kind.now code.now) }
 {
     match code {
-        CodeTerm::Text(code) => quoted(alloc, code.as_str()),
-        CodeTerm::Head(place) => joined(alloc, "head.", name_at(kind.head.as_slice(), *place)),
-        CodeTerm::Line(place) => joined(alloc, "line.", name_at(kind.lines.as_slice(), *place)),
+        CodeTerm::Text(code) => quote(alloc, code.as_str()),
+        CodeTerm::Head(place) => join_texts(
+            alloc,
+            "head.",
+            name_of_place(kind.head.as_slice(), *place),
+        ),
+        CodeTerm::Line(place) => join_texts(
+            alloc,
+            "line.",
+            name_of_place(kind.lines.as_slice(), *place),
+        ),
     }
 }
 
-fn quoted(alloc: Global, code: &str) -> Result<String, Memory>
+fn quote(alloc: Global, code: &str) -> Result<String, Memory>
     ensures { IfOk result (λ t. string_bytes t ≡ codes "\"" ++ (code.now ++ codes "\"")) }
 {
     Ok(format!(in alloc; "\"{code}\"")?)
-}
-
-pub(crate) fn joined(alloc: Global, front: &str, text: &str) -> Result<String, Memory>
-    ensures { IfOk result (λ t. string_bytes t ≡ front.now ++ text.now) }
-{
-    Ok(format!(in alloc; "{front}{text}")?)
-}
-
-pub(crate) fn copied(alloc: Global, text: &str) -> Result<String, Memory>
-    ensures { IfOk result (λ t. string_bytes t ≡ text.now) }
-{
-    Ok(String::from_str(alloc, text)?)
 }
 
 impl Spelt<Kind> for CodeTerm {
@@ -60,8 +65,8 @@ impl Spelt<Kind> for CodeTerm {
     }
 }
 
-/// Units with the decimals of their scale.
-fn units_text(alloc: Global, scale: Option<Scale>, units: i64) -> Result<String, Memory>
+// Units with the decimals of their scale.
+fn units_at_scale_text(alloc: Global, scale: Option<Scale>, units: i64) -> Result<String, Memory>
     ensures { IfOk result (λ t. string_bytes t ≡ units_text_of scale units) }
 {
     match scale {
@@ -70,7 +75,7 @@ fn units_text(alloc: Global, scale: Option<Scale>, units: i64) -> Result<String,
     }
 }
 
-/// A number of the scale, a field or `cost`.
+// A number of the scale, a field or `cost`.
 #[tactic(auto, unfolding(crate::specs::TermTexts::part_text))]
 fn part_text(
     alloc: Global,
@@ -81,15 +86,27 @@ fn part_text(
     ensures { IfOk result (λ t. string_bytes t ≡ part_text_of kind.now scale part.now) }
 {
     match part {
-        Part::Number(units) => units_text(alloc, scale, *units),
-        Part::Head(place) => joined(alloc, "head.", name_at(kind.head.as_slice(), *place)),
-        Part::Line(place) => joined(alloc, "line.", name_at(kind.lines.as_slice(), *place)),
-        Part::Total(place) => joined(alloc, "total.", name_at(kind.lines.as_slice(), *place)),
-        Part::Cost => copied(alloc, "cost"),
+        Part::Number(units) => units_at_scale_text(alloc, scale, *units),
+        Part::Head(place) => join_texts(
+            alloc,
+            "head.",
+            name_of_place(kind.head.as_slice(), *place),
+        ),
+        Part::Line(place) => join_texts(
+            alloc,
+            "line.",
+            name_of_place(kind.lines.as_slice(), *place),
+        ),
+        Part::Total(place) => join_texts(
+            alloc,
+            "total.",
+            name_of_place(kind.lines.as_slice(), *place),
+        ),
+        Part::Cost => string_of(alloc, "cost"),
     }
 }
 
-/// A part behind its own sign.
+// A part behind its own sign.
 #[tactic(auto, unfolding(crate::specs::TermTexts::term_text))]
 fn term_text(
     alloc: Global,
@@ -101,7 +118,7 @@ fn term_text(
 {
     let sign = if term.negative { "-" } else { "" };
     let part = part_text(alloc, kind, scale, &term.part)?;
-    joined(alloc, sign, part.as_str())
+    join_texts(alloc, sign, part.as_str())
 }
 
 fn joint_text(minus: bool) -> &'static str
@@ -126,7 +143,7 @@ impl<'a> Spelt<SumScene<'a>> for Term {
     }
 }
 
-/// A sum with the mark before each of its terms but the first.
+// A sum with the mark before each of its terms but the first.
 #[tactic(auto, unfolding(crate::specs::TermTexts::terms_text))]
 pub(crate) fn terms_text(
     alloc: Global,
@@ -137,7 +154,7 @@ pub(crate) fn terms_text(
     ensures { IfOk result (λ t. string_bytes t ≡ terms_text_of kind.now scale terms.now) }
 {
     let scene = SumScene { kind, scale };
-    listed(alloc, &scene, terms)
+    list_text(alloc, &scene, terms)
 }
 
 #[tactic(auto, unfolding(crate::specs::TermTexts::test_text))]
@@ -160,7 +177,7 @@ fn equal_text(equal: bool) -> &'static str
     if equal { "=" } else { "<>" }
 }
 
-/// The scale of the field at the place.
+// The scale of the field at the place.
 fn field_scale(fields: &[Field], place: u8) -> Option<Scale>
     ensures { result ≡ field_scale_of fields.now place }
 {
@@ -168,7 +185,7 @@ fn field_scale(fields: &[Field], place: u8) -> Option<Scale>
     field.scale
 }
 
-/// The scale that a part brings, where the latest write-off has this one.
+// The scale that a part brings, where the latest write-off has this one.
 #[tactic(auto, unfolding(crate::specs::TermTexts::part_scale))]
 fn part_scale(kind: &Kind, cost: &Option<Scale>, part: &Part) -> Option<Scale>
     ensures { result ≡ part_scale_of kind.now cost.now part.now }
@@ -182,7 +199,7 @@ fn part_scale(kind: &Kind, cost: &Option<Scale>, part: &Part) -> Option<Scale>
     }
 }
 
-/// The scale of the first of these terms that brings one, else the other.
+// The scale of the first of these terms that brings one, else the other.
 #[tactic(auto, unfolding(crate::specs::TermTexts::terms_scale))]
 fn terms_scale(
     kind: &Kind,
@@ -200,7 +217,7 @@ fn terms_scale(
     other
 }
 
-/// Two codes with the mark between them.
+// Two codes with the mark between them.
 fn codes_text(
     alloc: Global,
     kind: &Kind,
@@ -218,7 +235,7 @@ fn codes_text(
     Ok(format!(in alloc; "{left} {mark} {right}")?)
 }
 
-/// Two sums of a scale with the mark between them.
+// Two sums of a scale with the mark between them.
 fn sums_text(
     alloc: Global,
     kind: &Kind,
@@ -237,7 +254,7 @@ fn sums_text(
     Ok(format!(in alloc; "{left} {mark} {right}")?)
 }
 
-/// The scale of the first field or `cost` in two sums, or six decimals.
+// The scale of the first field or `cost` in two sums, or six decimals.
 fn sums_scale(kind: &Kind, cost: &Option<Scale>, left: &[Term], right: &[Term]) -> Option<Scale>
     ensures { result ≡ terms_scale_of kind.now cost.now
         (terms_scale_of kind.now cost.now (Some 6) right.now) left.now }
@@ -246,7 +263,7 @@ fn sums_scale(kind: &Kind, cost: &Option<Scale>, left: &[Term], right: &[Term]) 
     terms_scale(kind, cost, other, left)
 }
 
-/// Two sums, or two codes.
+// Two sums, or two codes.
 #[tactic(auto, unfolding(crate::specs::TermTexts::cond_text))]
 fn cond_text(
     alloc: Global,
@@ -265,7 +282,7 @@ fn cond_text(
     }
 }
 
-/// A condition, where there is one.
+// A condition, where there is one.
 #[tactic(auto, unfolding(crate::specs::TermTexts::when_text))]
 pub(crate) fn when_text(
     alloc: Global,
@@ -279,7 +296,7 @@ pub(crate) fn when_text(
         None => Ok(String::new(alloc)),
         Some(cond) => {
             let cond = cond_text(alloc, kind, cost, cond)?;
-            joined(alloc, " when ", cond.as_str())
+            join_texts(alloc, " when ", cond.as_str())
         }
     }
 }

@@ -1,19 +1,26 @@
 //! Write-offs, by the order of lots or by the average.
-ghost use Rattle.std.specs.Prelude.{◌≡◌, IfOk};
+ghost use Rattle.std.specs.Prelude.{◌≡◌};
 ghost use Rattle.std.specs.List.{list_any};
-ghost use Rattle.rule_lang.specs.WriteOffs.{write_off_act as write_off_act_of, lot_bound as lot_bound_in, order_fits as order_fits_in, write_off_fits as write_off_fits_in, written_off as written_off_in, write_off_of as write_off_in};
+ghost use Rattle.rule_lang.specs.WriteOffs.{lot_bound as lot_bound_in, order_fits as order_fits_in};
+ghost use Rattle.rule_lang.specs.WriteOffs.{write_off_fits as write_off_fits_in};
+ghost use Rattle.rule_lang.specs.WriteOffs.{resolved_write_off_from as written_off_in};
+ghost use Rattle.rule_lang.specs.WriteOffs.{resolved_write_off as write_off_in};
+ghost use Rattle.rule_lang.specs.Resolves.{Resolves};
 
-use crate::binds::{all_bound, amount_of, binds_of, is_bound, none_twice, same_name};
+use crate::binds::{
+    binds_each_dimension, binds_of, is_bound, none_twice, resolved_amount, same_name,
+};
 use crate::fields::place_of;
-use crate::least::{Tried, beside, both};
+use crate::least::{beside, both};
 use crate::terms::Round;
-use crate::{Act, Bind, RuleWhy, Sum};
+use crate::tried::Tried;
+use crate::{Act, RuleWhy};
 use cfg_model::{Config, Kind, Register};
 use reg_base::List;
 use rule_text::{PlainAmount, PlainBind, Spelling, Target};
 use std::alloc::Global;
 
-/// Whether a lot has a value.
+// Whether a lot has a value.
 fn lot_bound(register: &Register, binds: &[PlainBind]) -> bool
     ensures { result ≡ lot_bound_in register.now binds.now }
 {
@@ -30,7 +37,7 @@ fn has_lot(register: &Register) -> bool
     register.dimensions.as_slice().iter().any(|d| d.lot)
 }
 
-/// By the order of lots there is a lot, and it has no value.
+// By the order of lots there is a lot, and it has no value.
 fn order_fits(fifo: bool, register: &Register, binds: &[PlainBind]) -> bool
     ensures { result ≡ order_fits_in fifo register.now binds.now }
 {
@@ -50,7 +57,7 @@ fn write_off_fits(
 ) -> Result<(), RuleWhy>
     ensures { result ≡ write_off_fits_in fifo register.now binds.now quantity.now cost.now }
 {
-    if !all_bound(fifo, register, binds) {
+    if !binds_each_dimension(fifo, register, binds) {
         return Err(RuleWhy::Unbound);
     }
     if !none_twice(binds) {
@@ -68,9 +75,9 @@ fn write_off_fits(
     Ok(())
 }
 
-/// Fifo, average.
-#[tactic(auto, unfolding(crate::specs::WriteOffs::write_off_of))]
-pub(crate) fn write_off_of(
+// Fifo, average.
+#[tactic(auto, unfolding(crate::specs::WriteOffs::resolved_write_off))]
+pub(crate) fn resolved_write_off(
     alloc: Global,
     config: &Config,
     kind: &Kind,
@@ -80,17 +87,15 @@ pub(crate) fn write_off_of(
     wanted: &PlainAmount,
     cost: &Spelling,
 ) -> Tried<Act>
-    ensures { IfOk result (λ tried. tried ≡ write_off_in config.now kind.now round.now fifo
+    ensures { Resolves result (write_off_in config.now kind.now round.now fifo
         target.now wanted.now cost.now) }
 {
-    let place = match place_of(config.registers.as_slice(), &target.register) {
-        Ok(place) => place,
-        Err(why) => return Ok(Err(why)),
-    };
-    let Some(register) = config.registers.get(usize::from(place)) else {
-        return Ok(Err(RuleWhy::UnknownName));
-    };
-    written_off(
+    let place = place_of(config.registers.as_slice(), &target.register)?;
+    let register = config
+        .registers
+        .get(usize::from(place))
+        .ok_or(RuleWhy::UnknownName)?;
+    resolved_write_off_from(
         alloc,
         kind,
         round,
@@ -103,9 +108,9 @@ pub(crate) fn write_off_of(
     )
 }
 
-/// A write-off from the register at the place.
-#[tactic(auto, unfolding(crate::specs::WriteOffs::written_off))]
-fn written_off(
+// A write-off from the register at the place.
+#[tactic(auto, unfolding(crate::specs::WriteOffs::resolved_write_off_from, crate::specs::WriteOffs::write_off_act))]
+fn resolved_write_off_from(
     alloc: Global,
     kind: &Kind,
     round: &Round,
@@ -116,32 +121,17 @@ fn written_off(
     wanted: &PlainAmount,
     cost: &Spelling,
 ) -> Tried<Act>
-    ensures { IfOk result (λ tried. tried ≡ written_off_in kind.now round.now place register.now
+    ensures { Resolves result (written_off_in kind.now round.now place register.now
         fifo binds.now wanted.now cost.now) }
 {
-    let amount = match place_of(register.resources.as_slice(), cost) {
-        Ok(amount) => amount,
-        Err(why) => return Ok(Err(why)),
-    };
+    let amount = place_of(register.resources.as_slice(), cost)?;
     let fits = write_off_fits(fifo, register, binds, &wanted.resource, cost);
-    let bound = binds_of(alloc, kind, round, register, binds)?;
-    let wanted = amount_of(alloc, kind, round, register, wanted)?;
-    Ok(write_off_act(fifo, place, amount, beside(fits, both(bound, wanted))))
-}
-
-#[tactic(auto, unfolding(crate::specs::WriteOffs::write_off_act))]
-fn write_off_act(
-    fifo: bool,
-    register: u8,
-    amount: u8,
-    parts: Result<(List<Bind>, (u8, Sum)), RuleWhy>,
-) -> Result<Act, RuleWhy>
-    ensures { result ≡ write_off_act_of fifo register amount parts }
-{
-    let (binds, (quantity, wanted)) = parts?;
+    let bound = binds_of(alloc, kind, round, register, binds);
+    let wanted = resolved_amount(alloc, kind, round, register, wanted);
+    let (binds, (quantity, wanted)) = beside(fits, both(bound, wanted))?;
     Ok(Act::WriteOff {
         fifo,
-        register,
+        register: place,
         binds,
         quantity,
         wanted,

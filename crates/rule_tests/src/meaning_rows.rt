@@ -1,6 +1,6 @@
 //! Short texts of rules with the reason against their meaning, worked out from the text.
 
-/// Names that nothing has.
+// Names that nothing has.
 pub(crate) const NAMES: [(&str, &str); 19] = [
     ("receipt Goods(item = \"i\"; quantity = 1);", "fill 0 2"),
     (
@@ -50,7 +50,7 @@ pub(crate) const NAMES: [(&str, &str); 19] = [
     ),
 ];
 
-/// Dimensions without a value, or with two.
+// Dimensions without a value, or with two.
 pub(crate) const BINDS: [(&str, &str); 16] = [
     (
         "expense goods(item = \"a\", item = \"b\"; quantity = 1);",
@@ -103,7 +103,7 @@ pub(crate) const BINDS: [(&str, &str); 16] = [
     ),
 ];
 
-/// Codes for numbers, numbers for codes, and wrong scales.
+// Codes for numbers, numbers for codes, and wrong scales.
 pub(crate) const TYPES: [(&str, &str); 14] = [
     (
         "receipt goods(item = head.limit; quantity = 1);",
@@ -154,7 +154,7 @@ pub(crate) const TYPES: [(&str, &str); 14] = [
     ("entry main(debit none, credit none; 1.234);", "fill 0 5"),
 ];
 
-/// Conditions of mixed types and scales.
+// Conditions of mixed types and scales.
 pub(crate) const CONDITIONS: [(&str, &str); 11] = [
     (
         "receipt goods(item = \"i\"; quantity = 1) when head.warehouse < 1;",
@@ -202,7 +202,7 @@ pub(crate) const CONDITIONS: [(&str, &str); 11] = [
     ),
 ];
 
-/// Fields of lines and costs where there are none.
+// Fields of lines and costs where there are none.
 pub(crate) const SCOPES: [(&str, &str); 17] = [
     ("receipt goods(item = line.item; quantity = 1);", "fill 0 6"),
     (
@@ -256,7 +256,7 @@ pub(crate) const SCOPES: [(&str, &str); 17] = [
     ("control goods quantity when 1 = 1;", "fill 0 6"),
 ];
 
-/// Verbs that do not suit their register, and two faults at once.
+// Verbs that do not suit their register, and two faults at once.
 pub(crate) const REGISTERS: [(&str, &str); 12] = [
     ("once control sales quantity;", "fill 0 6"),
     ("receipt sales(item = \"i\"; quantity = 1);", "fill 0 7"),
@@ -290,7 +290,7 @@ pub(crate) const REGISTERS: [(&str, &str); 12] = [
     ),
 ];
 
-/// Rules of a type that stands in a sequence.
+// Rules of a type that stands in a sequence.
 pub(crate) const SEQUENCES: [(&str, &str); 15] = [
     (
         "receipt stock(warehouse = head.warehouse, item = \"i\", lot = point; quantity = 1);",

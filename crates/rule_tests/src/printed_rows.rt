@@ -1,6 +1,6 @@
 //! Texts of rules with their canonical form, worked out from the text.
 
-/// A text, and what is printed of it.
+// A text, and what is printed of it.
 pub(crate) const PRINTED: [(&str, &str); 6] = [
     (
         "receipt goods(item=\"nail\";quantity=1);",
@@ -34,7 +34,7 @@ pub(crate) const PRINTED: [(&str, &str); 6] = [
     ),
 ];
 
-/// The rules of a type in a sequence, in their canonical form.
+// The rules of a type in a sequence, in their canonical form.
 pub(crate) const SALE: &str = "\
 each line fifo stock(warehouse = head.warehouse, item = line.item; quantity = line.quantity, amount);
 each line turn sales(item = line.item; quantity = line.quantity, amount = cost);

@@ -1,6 +1,6 @@
 //! The configuration of a whole shop, and the canonical text of the rules of each of its types.
 
-/// Stock in lots and in sum, their sales, a ledger, five document types and a sequence.
+// Stock in lots and in sum, their sales, a ledger, five document types and a sequence.
 pub(crate) const SHOP: &str = r#"
 [register.stock]
 kind = "balance"
@@ -65,17 +65,33 @@ registers = ["stock"]
 dimensions = ["warehouse"]
 "#;
 
-/// The rules of `fill`, `issue`, `receipt`, `sale` and `take`.
-pub(crate) const SHOP_PRINTED: [&str; 5] = [
-    "each line receipt goods(item = line.item; quantity = line.quantity, amount = line.amount);\n",
-    "each line average goods(item = line.item; quantity = line.quantity, amount);\n",
-    "each line receipt stock(warehouse = head.warehouse, item = line.item, lot = point; \
-     quantity = line.quantity, amount = line.amount);\n\
-     each line entry main(debit \"10\"(line.item), credit \"60\"(); line.amount);\n",
-    "each line fifo stock(warehouse = head.warehouse, item = line.item; \
-     quantity = line.quantity, amount);\n\
-     each line turn sales(item = line.item; quantity = line.quantity, amount = cost);\n\
-     each line entry main(debit \"90\"(), credit \"10\"(line.item); cost);\n",
-    "each line expense goods(item = line.item; quantity = line.quantity);\n\
-     control goods quantity;\n",
+// The places of `fill`, `issue`, `receipt`, `sale` and `take`, and their rules.
+pub(crate) const SHOP_PRINTED: [(u8, &str); 5] = [
+    (
+        0,
+        "each line receipt goods(item = line.item; quantity = line.quantity, \
+         amount = line.amount);\n",
+    ),
+    (
+        1,
+        "each line average goods(item = line.item; quantity = line.quantity, amount);\n",
+    ),
+    (
+        2,
+        "each line receipt stock(warehouse = head.warehouse, item = line.item, lot = point; \
+         quantity = line.quantity, amount = line.amount);\n\
+         each line entry main(debit \"10\"(line.item), credit \"60\"(); line.amount);\n",
+    ),
+    (
+        3,
+        "each line fifo stock(warehouse = head.warehouse, item = line.item; \
+         quantity = line.quantity, amount);\n\
+         each line turn sales(item = line.item; quantity = line.quantity, amount = cost);\n\
+         each line entry main(debit \"90\"(), credit \"10\"(line.item); cost);\n",
+    ),
+    (
+        4,
+        "each line expense goods(item = line.item; quantity = line.quantity);\n\
+         control goods quantity;\n",
+    ),
 ];

@@ -6,14 +6,14 @@ use rule_lang::Rules;
 use std::alloc::Global;
 use std::process::Abort;
 
-/// Asks what is printed of the rules of each document type.
+// Asks what is printed of the rules of each document type.
 fn expect_texts(rt: &impl Abort, alloc: Global, config: &Config, rules: &Rules) {
-    for (kind, wanted) in SHOP_PRINTED.iter().enumerate() {
-        assert!(rt; prints(alloc, config, rules, kind, wanted), "{wanted}");
+    for (kind, wanted) in &SHOP_PRINTED {
+        assert!(rt; prints(alloc, config, rules, *kind, wanted), "{wanted}");
     }
 }
 
-/// Asks the same of the rules of a configuration, which are accepted.
+// Asks the same of the rules of a configuration, which are accepted.
 fn expect_rules(rt: &impl Abort, alloc: Global, config: &Config) {
     match Rules::read(alloc, config) {
         Ok(rules) => expect_texts(rt, alloc, config, &rules),
@@ -29,7 +29,7 @@ fn the_rules_of_a_shop_are_accepted_and_printed(rt: HostRuntime) {
     }
 }
 
-/// A statement with a sum of so many terms, and then what is given.
+// A statement with a sum of so many terms, and then what is given.
 fn long_sum(alloc: Global, terms: usize, last: &str) -> Option<String> {
     let mut text = String::new(alloc);
     text.push_str("receipt goods(item=\"i\"; quantity=0").ok()?;

@@ -1,6 +1,6 @@
 //! Short texts of rules with the place of what cannot follow, worked out from the text.
 
-/// Words, names and codes that can't follow.
+// Words, names and codes that can't follow.
 pub(crate) const WORDS: [(&str, &str); 21] = [
     ("", "accepted"),
     ("each line receipt goods(quantity = 1);", "fill 35 1"),
@@ -37,7 +37,7 @@ pub(crate) const WORDS: [(&str, &str); 21] = [
     ),
 ];
 
-/// Sums and conditions that break off.
+// Sums and conditions that break off.
 pub(crate) const SUMS: [(&str, &str); 23] = [
     (
         "receipt goods(item = \"nail\", ; quantity = 1);",
@@ -112,7 +112,7 @@ pub(crate) const SUMS: [(&str, &str); 23] = [
     ),
 ];
 
-/// Verbs with something else behind them.
+// Verbs with something else behind them.
 pub(crate) const ACTS: [(&str, &str); 15] = [
     (
         "receipt goods(item = \"i\"; quantity = 1) when head.limit + 1 = \"a\";",

@@ -8,7 +8,7 @@ use rule_lang::Rules;
 use std::alloc::Global;
 use std::process::Abort;
 
-/// Registers and a ledger, and in front of its name a document type.
+// Registers and a ledger, and in front of its name a document type.
 const FRONT: &str = "\
 [register.goods]
 kind = 'balance'
@@ -31,14 +31,14 @@ accounts = []
 
 [document.";
 
-/// The fields of the document type, in front of its rules.
+// The fields of the document type, in front of its rules.
 const FIELDS: &str = "]
 head = ['warehouse:code', 'limit:3', 'other:code']
 lines = ['item:code', 'quantity:3', 'amount:2']
 rules = '''
 ";
 
-/// A sequence of `sale`, which `stock` affects.
+// A sequence of `sale`, which `stock` affects.
 const SEQUENCE: &str = "
 [sequence.batches]
 documents = ['sale']
@@ -46,14 +46,14 @@ registers = ['stock']
 dimensions = ['warehouse']
 ";
 
-/// A configuration of one document type, which stands in the sequence where it is `sale`.
+// A configuration of one document type, which stands in the sequence where it is `sale`.
 fn config(alloc: Global, kind: &str, rules: &str) -> Option<Config> {
     let sequence = if kind == "sale" { SEQUENCE } else { "" };
     let file = format!(in alloc; "{FRONT}{kind}{FIELDS}{rules}'''{sequence}").ok()?;
     Config::read(alloc, file.as_bytes()).ok()
 }
 
-/// What is told of the rules of a configuration; none where memory is wanted.
+// What is told of the rules of a configuration; none where memory is wanted.
 fn told_of(alloc: Global, config: &Config) -> Option<String> {
     let Err(fault) = Rules::read(alloc, config) else {
         return String::from_str(alloc, "accepted").ok();
@@ -61,20 +61,20 @@ fn told_of(alloc: Global, config: &Config) -> Option<String> {
     fault.text(alloc).ok()
 }
 
-/// What is told of a text.
+// What is told of a text.
 fn told(alloc: Global, kind: &str, rules: &str) -> Option<String> {
     let config = config(alloc, kind, rules)?;
     told_of(alloc, &config)
 }
 
-/// Asks what is told of each text.
+// Asks what is told of each text.
 fn expect_told(rt: &impl Abort, alloc: Global, kind: &str, rows: Rows) {
     for (rules, wanted) in rows {
         expect(rt, rules, told(alloc, kind, rules), wanted);
     }
 }
 
-/// Asks what is told of a text that is made; none where memory is wanted.
+// Asks what is told of a text that is made; none where memory is wanted.
 pub(crate) fn expect_made(rt: &impl Abort, alloc: Global, made: Option<String>, wanted: &str) {
     match made {
         Some(rules) => expect(rt, wanted, told(alloc, "fill", rules.as_str()), wanted),
@@ -132,7 +132,7 @@ fn a_sequence_binds_its_dimensions_to_the_head(rt: HostRuntime) {
     expect_told(&rt, rt.alloc(), "sale", &SEQUENCES);
 }
 
-/// So many controls, and then what is given.
+// So many controls, and then what is given.
 fn controls(alloc: Global, count: u8, last: &str) -> Option<String> {
     let mut text = String::new(alloc);
     for _ in 0..count {
@@ -142,7 +142,7 @@ fn controls(alloc: Global, count: u8, last: &str) -> Option<String> {
     Some(text)
 }
 
-/// A right statement of each verb, which is one too many behind sixty-four.
+// A right statement of each verb, which is one too many behind sixty-four.
 const LAST: [&str; 8] = [
     "receipt goods(item = \"i\"; quantity = 1);",
     "expense goods(item = \"i\"; quantity = 1);",
@@ -167,7 +167,7 @@ fn a_statement_of_each_verb_is_one_too_many(rt: HostRuntime) {
     }
 }
 
-/// How many controls stand in front of what is given, and what is told.
+// How many controls stand in front of what is given, and what is told.
 const COUNTED: [(u8, &str, &str); 5] = [
     (64, "", "accepted"),
     (65, "", "fill 1472 8"),
@@ -183,35 +183,36 @@ fn the_sixty_fifth_statement_is_one_too_many(rt: HostRuntime) {
     }
 }
 
-/// Whether this is printed of the rules of the document type at a place, behind what stands there.
+// Whether this is printed of the rules of the document type at a place, behind what stands there.
 pub(crate) fn prints(
     alloc: Global,
     config: &Config,
     rules: &Rules,
-    kind: usize,
+    kind: u8,
     wanted: &str,
 ) -> bool {
+    let place = usize::from(kind);
+    if place >= config.kinds.len() || place >= rules.kinds.len() {
+        return false;
+    }
     let mut out = Vec::new(alloc);
     out.extend_from_slice(b"front ").is_ok()
         && rules.print(alloc, config, kind, &mut out).is_ok()
         && out.as_slice().strip_prefix(b"front ".as_slice()) == Some(wanted.as_bytes())
 }
 
-/// Whether the rules of a configuration are accepted and printed so, with nothing of a second
-/// document type.
-fn prints_alone(alloc: Global, config: &Config, wanted: &str) -> bool {
+// Whether the rules of a configuration are accepted and those of its first type printed so.
+fn prints_first(alloc: Global, config: &Config, wanted: &str) -> bool {
     match Rules::read(alloc, config) {
-        Ok(rules) => {
-            prints(alloc, config, &rules, 0, wanted) && prints(alloc, config, &rules, 1, "")
-        }
+        Ok(rules) => prints(alloc, config, &rules, 0, wanted),
         Err(_) => false,
     }
 }
 
-/// Whether a text of rules is accepted and printed so.
+// Whether a text of rules is accepted and printed so.
 fn is_printed(alloc: Global, kind: &str, rules: &str, wanted: &str) -> bool {
     match config(alloc, kind, rules) {
-        Some(config) => prints_alone(alloc, &config, wanted),
+        Some(config) => prints_first(alloc, &config, wanted),
         None => false,
     }
 }

@@ -19,7 +19,7 @@ const TEXTS: [(&str, &str); 10] = [
     ("h\u{e9}", "syntax at 0"),
 ];
 
-/// What is told of a text; none where memory is wanted.
+// What is told of a text; none where memory is wanted.
 fn told(alloc: Global, text: &str) -> Option<String> {
     match parse(alloc, text) {
         Ok(statements) => {

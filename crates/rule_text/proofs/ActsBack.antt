@@ -1,37 +1,51 @@
 -- Acts are read back as they were written.
-use Rattle.std.proofs.Common.{◌≡◌, ℕ, Bool, true, false, List, [], ◌∷◌, ◌++◌, Option, Some, None, codes, refl, append_assoc}
+use Rattle.std.proofs.Common.{◌≡◌, ℕ, Bool, true, false, List, [], ◌∷◌, ◌++◌, Option, Some, None}
+use Rattle.std.proofs.Common.{codes, refl, append_assoc}
 use Rattle.std.proofs.lemmas.Bool.{and_parts}
 use Rattle.std.specs.List.{flat_map, list_all}
 use Rattle.reg_base.specs.Codes.{is_code, is_name}
 use Rattle.rule_text.specs.Marks.{mark_text}
-use Rattle.rule_text.specs.Fronts.{sign_of, is_mark_next, is_word_next}
+use Rattle.rule_text.specs.Fronts.{token_mark, is_mark_next, is_word_next}
 use Rattle.rule_text.specs.Sums.{code}
 use Rattle.rule_text.specs.Binds.{amount}
-use Rattle.rule_text.specs.Acts.{make, write_off, require, control, next_code, extra_codes, account_side, side, sides, entry, opening_of, act_of, verb, act}
+use Rattle.rule_text.specs.Acts.{make, write_off, require, control, next_code, extra_codes}
+use Rattle.rule_text.specs.Acts.{account_side, side, sides, entry, opening_of, act_of, verb, act}
 use Rattle.rule_text.specs.Tokens.{lexeme}
 use Rattle.rule_text.specs.declared.mark.Mark.TheVariants.{Open, Close, Semicolon, Comma, AtLeast}
 use Rattle.rule_text.specs.declared.acts.Opening.{Opening}
-use Rattle.rule_text.specs.declared.acts.Opening.TheVariants.{Makes, WritesOff, Requires, Controls, Enters}
+use Rattle.rule_text.specs.declared.acts.Opening.TheVariants.{Makes, WritesOff, Requires, Controls}
+use Rattle.rule_text.specs.declared.acts.Opening.TheVariants.{Enters}
 use Rattle.rule_text.specs.declared.token.Spelling.{Spelling}
 use Rattle.rule_text.specs.declared.token.Spelling.TheVariants.{Named}
 use Rattle.rule_text.specs.declared.token.Token.TheVariants.{Sign}
 use Rattle.rule_text.specs.declared.plain.PlainAct.{PlainAct}
-use Rattle.rule_text.specs.declared.plain.PlainAct.TheVariants.{Make, WriteOff, Require, Control, Entry}
+use Rattle.rule_text.specs.declared.plain.PlainAct.TheVariants.{Make, WriteOff, Require, Control}
+use Rattle.rule_text.specs.declared.plain.PlainAct.TheVariants.{Entry}
 use Rattle.rule_text.specs.declared.plain.PlainAmount.{PlainAmount}
 use Rattle.rule_text.specs.declared.plain.PlainCode.{PlainCode}
-use Rattle.rule_text.specs.declared.plain.PlainCode.TheVariants.{Text, Head as HeadCode, Line as LineCode}
+use Rattle.rule_text.specs.declared.plain.PlainCode.TheVariants.{Text, Head as HeadCode}
+use Rattle.rule_text.specs.declared.plain.PlainCode.TheVariants.{Line as LineCode}
 use Rattle.rule_text.specs.declared.plain.PlainSide.{PlainSide}
 use Rattle.rule_text.specs.declared.plain.PlainSides.{PlainSides}
 use Rattle.rule_text.specs.declared.plain.PlainTerm.{PlainTerm}
 use Rattle.rule_text.specs.declared.plain.Target.{Target}
 use Rattle.rule_text.specs.declared.plain.Verb.{Verb}
 use Rattle.rule_text.specs.declared.plain.Verb.TheVariants.{Receipt, Expense, Turn}
-use Rattle.rule_text.proofs.PlainTexts.{joined, spelling_text, code_text, binds_text, amount_text, amounts_text, terms_text, verb_text, order_text, side_text, act_text, is_named, is_small, code_fits, target_fits, amount_fits, amounts_fit, terms_fit, side_fits, act_fits}
-use Rattle.rule_text.proofs.ReadBack.{ReadsBack, Anything, starts_first, then_reads, then_gives, behind_blank, reads_before, before_less, reads_nothing, reads_as, Begins, front-begins, begins-blank, takes_nothing}
-use Rattle.rule_text.proofs.TokensBack.{EndsWord, is_word, is_mark, begins-token, reads_token, reads_mark, reads_word, takes_word, reads_name, reads_quoted, not_word, not_mark}
+use Rattle.rule_text.proofs.PlainTexts.{joined, spelling_text, code_text, binds_text, amount_text}
+use Rattle.rule_text.proofs.PlainTexts.{amounts_text, terms_text, verb_text, order_text, side_text}
+use Rattle.rule_text.proofs.PlainTexts.{act_text, is_named, is_small, code_fits, target_fits}
+use Rattle.rule_text.proofs.PlainTexts.{amount_fits, amounts_fit, terms_fit, side_fits, act_fits}
+use Rattle.rule_text.proofs.ReadBack.{ReadsBack, Anything, starts_first, then_reads, then_gives}
+use Rattle.rule_text.proofs.ReadBack.{behind_blank, reads_before, before_less, reads_nothing}
+use Rattle.rule_text.proofs.ReadBack.{reads_as, Begins, front-begins, begins-blank, takes_nothing}
+use Rattle.rule_text.proofs.TokensBack.{EndsWord, is_word, is_mark, begins-token, reads_token}
+use Rattle.rule_text.proofs.TokensBack.{reads_mark, reads_word, takes_word, reads_name}
+use Rattle.rule_text.proofs.TokensBack.{reads_quoted, not_word, not_mark}
 use Rattle.rule_text.proofs.ListsBack.{ReadsMore, may_follow, reads_list_of}
 use Rattle.rule_text.proofs.SumsBack.{reads_code, reads_sum, EndsSum, ends_blank}
-use Rattle.rule_text.proofs.BindsBack.{code_token, starts_code, EndsList, reads_after_comma, target_text, reads_target, ends_sum, reads_amount, sum_before_comma, reads_amounts}
+use Rattle.rule_text.proofs.BindsBack.{code_token, starts_code, EndsList, reads_after_comma}
+use Rattle.rule_text.proofs.BindsBack.{target_text, reads_target, ends_sum, reads_amount}
+use Rattle.rule_text.proofs.BindsBack.{sum_before_comma, reads_amounts}
 
 reads_more_codes : ReadsMore EndsWord (EndsList EndsWord) next_code
     (λ x. codes ", " ++ code_text x) code_fits
@@ -62,7 +76,7 @@ reads_extras : (xs : List PlainCode) → list_all code_fits xs ≡ true
     → ReadsBack EndsExtras extra_codes (extras_text xs) xs
 unfolding extra_codes mark_text
 reads_extras [] fit = reads_nothing extra_codes []
-    (λ place rest end. rw (front-begins end.close sign_of place) refl)
+    (λ place rest end. rw (front-begins end.close token_mark place) refl)
 reads_extras (x ∷ xs) fit =
     let parts = and_parts (code_fits x) (list_all code_fits xs) fit in
     let more = flat_map (λ y. codes ", " ++ code_text y) xs in

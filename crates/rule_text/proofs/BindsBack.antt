@@ -5,24 +5,35 @@ use Rattle.std.specs.List.{flat_map, list_all}
 use Rattle.reg_base.specs.Codes.{is_name}
 use Rattle.rule_text.specs.Marks.{mark_text}
 use Rattle.rule_text.specs.Readers.{Reader}
-use Rattle.rule_text.specs.Fronts.{sign_of, is_mark_next, is_word_next}
-use Rattle.rule_text.specs.Binds.{bind_to, bind, after_comma, next_bind, binds, target, amount, next_amount, amounts}
+use Rattle.rule_text.specs.Fronts.{token_mark, is_mark_next, is_word_next}
+use Rattle.rule_text.specs.Binds.{bind_to, bind, after_comma, next_bind, binds, target, amount}
+use Rattle.rule_text.specs.Binds.{next_amount, amounts}
 use Rattle.rule_text.specs.Tokens.{lexeme}
-use Rattle.rule_text.specs.declared.mark.Mark.TheVariants.{Open, Semicolon, Comma, Equal, Plus, Minus}
+use Rattle.rule_text.specs.declared.mark.Mark.TheVariants.{Open, Semicolon, Comma, Equal, Plus}
+use Rattle.rule_text.specs.declared.mark.Mark.TheVariants.{Minus}
 use Rattle.rule_text.specs.declared.token.Spelling.TheVariants.{Named}
 use Rattle.rule_text.specs.declared.token.Token.{Token}
 use Rattle.rule_text.specs.declared.token.Token.TheVariants.{Word, Quoted, Sign}
 use Rattle.rule_text.specs.declared.plain.PlainAmount.{PlainAmount}
 use Rattle.rule_text.specs.declared.plain.PlainBind.{PlainBind}
 use Rattle.rule_text.specs.declared.plain.PlainCode.{PlainCode}
-use Rattle.rule_text.specs.declared.plain.PlainCode.TheVariants.{Text, Head as HeadCode, Line as LineCode}
+use Rattle.rule_text.specs.declared.plain.PlainCode.TheVariants.{Text, Head as HeadCode}
+use Rattle.rule_text.specs.declared.plain.PlainCode.TheVariants.{Line as LineCode}
 use Rattle.rule_text.specs.declared.plain.PlainTo.{PlainTo}
 use Rattle.rule_text.specs.declared.plain.PlainTo.TheVariants.{Code, Point}
 use Rattle.rule_text.specs.declared.plain.Target.{Target}
-use Rattle.rule_text.proofs.PlainTexts.{spelling_text, code_text, to_text, bind_text, binds_text, amount_text, amounts_text, is_named, is_small, code_fits, to_fits, bind_fits, target_fits, amount_fits, amounts_fit, terms_fit}
+use Rattle.rule_text.proofs.PlainTexts.{spelling_text, code_text, to_text, bind_text, binds_text}
+use Rattle.rule_text.proofs.PlainTexts.{amount_text, amounts_text, is_named, is_small, code_fits}
+use Rattle.rule_text.proofs.PlainTexts.{to_fits, bind_fits, target_fits, amount_fits, amounts_fit}
+use Rattle.rule_text.proofs.PlainTexts.{terms_fit}
 use Rattle.rule_text.proofs.LexemeLemmas.{EndsPart}
-use Rattle.rule_text.proofs.ReadBack.{ReadsBack, Anything, Starts, starts_first, then_reads, then_gives, takes_first, behind_blank, reads_before, reads_nothing, reads_as, Begins, front-begins, NotNext, takes_nothing, takes_nothing_before}
-use Rattle.rule_text.proofs.TokensBack.{EndsWord, is_mark, is_quoted, takes-token, begins-token, starts_name, reads_mark, takes_mark, takes_word, reads_name, not_word, not_mark}
+use Rattle.rule_text.proofs.ReadBack.{ReadsBack, Anything, Starts, starts_first, then_reads}
+use Rattle.rule_text.proofs.ReadBack.{then_gives, takes_first, behind_blank, reads_before}
+use Rattle.rule_text.proofs.ReadBack.{reads_nothing, reads_as, Begins, front-begins, NotNext}
+use Rattle.rule_text.proofs.ReadBack.{takes_nothing, takes_nothing_before}
+use Rattle.rule_text.proofs.TokensBack.{EndsWord, is_mark, is_quoted, takes-token, begins-token}
+use Rattle.rule_text.proofs.TokensBack.{starts_name, reads_mark, takes_mark, takes_word, reads_name}
+use Rattle.rule_text.proofs.TokensBack.{not_word, not_mark}
 use Rattle.rule_text.proofs.ListsBack.{ReadsMore, reads_list_of}
 use Rattle.rule_text.proofs.SumsBack.{reads_code, reads_sum, begins_owner, EndsSum}
 
@@ -86,7 +97,8 @@ reads_after_comma {follows = follows} read text fits element comma = record {
       takes_first (takes-token (is_mark Comma)) (behind_blank (element x h)) (λ rest end. tt);
   goes_on = λ x rest. comma (text x ++ rest);
   none = then_gives _
-      (takes_nothing_before (is_mark_next Comma) (λ rest (end : EndsList follows rest). end.no_comma))
+      (takes_nothing_before (is_mark_next Comma) (λ rest (end : EndsList follows rest).
+      end.no_comma))
       (λ tokens. refl);
   ended = λ rest end. end.element;
 }
@@ -117,7 +129,7 @@ pub reads_binds : (xs : List PlainBind) → list_all bind_fits xs ≡ true
     → ReadsBack EndsBinds binds (binds_text xs) xs
 unfolding binds binds_text mark_text
 reads_binds [] fit = reads_nothing binds []
-    (λ place rest end. rw (front-begins end.semicolon sign_of place) refl)
+    (λ place rest end. rw (front-begins end.semicolon token_mark place) refl)
 reads_binds (x ∷ xs) fit =
     let parts = and_parts (bind_fits x) (list_all bind_fits xs) fit in
     let more = flat_map (λ y. codes ", " ++ bind_text y) xs in

@@ -1,31 +1,47 @@
 -- Conditions are read back as they were written.
-use Rattle.std.proofs.Common.{◌≡◌, ℕ, Bool, true, false, not, List, [], ◌∷◌, ◌++◌, slice_index, Option, Some, None, codes, refl, append_assoc, append-nil}
+use Rattle.std.proofs.Common.{◌≡◌, ℕ, Bool, true, false, not, List, [], ◌∷◌, ◌++◌, slice_index}
+use Rattle.std.proofs.Common.{Option, Some, None, codes, refl, append_assoc, append-nil}
 use Rattle.std.proofs.lemmas.Bool.{and_parts}
 use Rattle.std.specs.List.{flat_map}
 use Rattle.reg_base.specs.Codes.{is_code, is_name}
 use Rattle.rule_text.specs.Marks.{mark_text}
 use Rattle.rule_text.specs.Plain.{code_of_part, lone_field, equality_of}
-use Rattle.rule_text.specs.Fronts.{code_of, break_of, is_mark_next, is_word_next}
+use Rattle.rule_text.specs.Fronts.{token_code, token_break, is_mark_next, is_word_next}
 use Rattle.rule_text.specs.Sums.{sum}
-use Rattle.rule_text.specs.Conditions.{test_of, comparison, equality, text_cond, sums_cond, field_cond, compared, sum_cond, cond, when}
+use Rattle.rule_text.specs.Conditions.{test_of, comparison, equality, text_cond, sums_cond}
+use Rattle.rule_text.specs.Conditions.{field_cond, code_or_sum_cond, sum_cond, cond, when}
 use Rattle.rule_text.specs.Tokens.{is_blank, lexeme}
-use Rattle.rule_text.specs.declared.mark.Mark.TheVariants.{Minus as MinusMark, Plus as PlusMark, Equal as EqualMark, Less as LessMark, AtMost as AtMostMark, AtLeast as AtLeastMark, Greater as GreaterMark, Differs as DiffersMark}
+use Rattle.rule_text.specs.declared.mark.Mark.TheVariants.{Minus as MinusMark, Plus as PlusMark}
+use Rattle.rule_text.specs.declared.mark.Mark.TheVariants.{Equal as EqualMark, Less as LessMark}
+use Rattle.rule_text.specs.declared.mark.Mark.TheVariants.{AtMost as AtMostMark}
+use Rattle.rule_text.specs.declared.mark.Mark.TheVariants.{AtLeast as AtLeastMark}
+use Rattle.rule_text.specs.declared.mark.Mark.TheVariants.{Greater as GreaterMark}
+use Rattle.rule_text.specs.declared.mark.Mark.TheVariants.{Differs as DiffersMark}
 use Rattle.rule_text.specs.declared.token.Token.{Token}
 use Rattle.rule_text.specs.declared.plain.PlainCode.{PlainCode}
-use Rattle.rule_text.specs.declared.plain.PlainCode.TheVariants.{Text, Head as HeadCode, Line as LineCode}
+use Rattle.rule_text.specs.declared.plain.PlainCode.TheVariants.{Text, Head as HeadCode}
+use Rattle.rule_text.specs.declared.plain.PlainCode.TheVariants.{Line as LineCode}
 use Rattle.rule_text.specs.declared.plain.PlainCond.{PlainCond}
 use Rattle.rule_text.specs.declared.plain.PlainCond.TheVariants.{Sums, Codes}
 use Rattle.rule_text.specs.declared.plain.PlainPart.{PlainPart}
 use Rattle.rule_text.specs.declared.plain.PlainPart.TheVariants.{Number, Head, Line, Total, Cost}
 use Rattle.rule_text.specs.declared.plain.PlainTerm.{PlainTerm}
 use Rattle.rule_text.specs.declared.plain.Test.{Test}
-use Rattle.rule_text.specs.declared.plain.Test.TheVariants.{Less, AtMost, Equal, AtLeast, Greater, Differs}
-use Rattle.rule_text.proofs.PlainTexts.{code_text, part_text, sign_text, term_text, joint_text, terms_text, test_text, equal_text, cond_text, when_text, is_named, is_small, code_fits, part_fits, terms_fit, cond_fits, when_fits}
+use Rattle.rule_text.specs.declared.plain.Test.TheVariants.{Less, AtMost, Equal, AtLeast, Greater}
+use Rattle.rule_text.specs.declared.plain.Test.TheVariants.{Differs}
+use Rattle.rule_text.proofs.PlainTexts.{code_text, part_text, sign_text, term_text, joint_text}
+use Rattle.rule_text.proofs.PlainTexts.{terms_text, test_text, equal_text, cond_text, when_text}
+use Rattle.rule_text.proofs.PlainTexts.{is_named, is_small, code_fits, part_fits, terms_fit}
+use Rattle.rule_text.proofs.PlainTexts.{cond_fits, when_fits}
 use Rattle.rule_text.proofs.LexemeLemmas.{EndsPart, quoted_text}
-use Rattle.rule_text.proofs.ReadBack.{ReadsBack, Anything, then_reads, then_gives, behind_blank, reads_before, before_less, Begins, begins-blank, NotNext, takes_nothing_before}
-use Rattle.rule_text.proofs.TokensBack.{EndsWord, is_mark, begins-token, reads_token, takes_word, reads_code_if, NoCode, no_code_if, no_code_next}
+use Rattle.rule_text.proofs.ReadBack.{ReadsBack, Anything, then_reads, then_gives, behind_blank}
+use Rattle.rule_text.proofs.ReadBack.{reads_before, before_less, Begins, begins-blank, NotNext}
+use Rattle.rule_text.proofs.ReadBack.{takes_nothing_before}
+use Rattle.rule_text.proofs.TokensBack.{EndsWord, is_mark, begins-token, reads_token, takes_word}
+use Rattle.rule_text.proofs.TokensBack.{reads_code_if, NoCode, no_code_if, no_code_next}
 use Rattle.rule_text.proofs.ListsBack.{may_follow}
-use Rattle.rule_text.proofs.SumsBack.{part_token, begins_part, begins_owner, reads_code, EndsSum, ends_blank, reads_more_terms, reads_sum}
+use Rattle.rule_text.proofs.SumsBack.{part_token, begins_part, begins_owner, reads_code, EndsSum}
+use Rattle.rule_text.proofs.SumsBack.{ends_blank, reads_more_terms, reads_sum}
 use Rattle.rule_text.proofs.BindsBack.{ends_sum}
 
 -- a blank follows
@@ -75,7 +91,7 @@ sum_before_test Equal rest =
 sum_before_test Differs rest =
     before_test (begins-token (is_mark DiffersMark) (32 ∷ rest) tt) refl refl
 
-no_code_part : (x : PlainPart) → code_of (part_token x) ≡ None
+no_code_part : (x : PlainPart) → token_code (part_token x) ≡ None
 unfolding part_token
 no_code_part (Number literal) = refl
 no_code_part (Head spelling) = refl
@@ -83,7 +99,7 @@ no_code_part (Line spelling) = refl
 no_code_part (Total spelling) = refl
 no_code_part Cost = refl
 
-no_break_part : (x : PlainPart) → break_of (part_token x) ≡ None
+no_break_part : (x : PlainPart) → token_break (part_token x) ≡ None
 unfolding part_token
 no_break_part (Number literal) = refl
 no_break_part (Head spelling) = refl
@@ -119,7 +135,8 @@ reads_sums left right by fits = then_gives _ (reads_sum right fits) (λ tokens. 
 reads_compared : (field : Option PlainCode) (equal : Option Bool) (left right : List PlainTerm)
     → (by : Test)
     → terms_fit is_small right ≡ true
-    → ReadsBack EndsSum (compared field equal left by) (terms_text right) (Sums left by right)
+    → ReadsBack EndsSum (code_or_sum_cond field equal left by) (terms_text right)
+    (Sums left by right)
 unfolding field_cond
 reads_compared (Some field) (Some equal) left right by fits = then_reads _ no_code_if
     (reads_sums left right by fits) (λ rest end. no_code_sum right fits rest end)
@@ -167,7 +184,7 @@ reads_lone x fits =
 
 reads_text_behind : (field : PlainCode) (equal : Bool) (x : PlainPart) (by : Test) (text : List ℕ)
     → code_of_part x ≡ Some field → equality_of by ≡ Some equal → is_code text ≡ true
-    → ReadsBack Anything (compared (lone_field (lone x)) (equality_of by) (lone x) by)
+    → ReadsBack Anything (code_or_sum_cond (lone_field (lone x)) (equality_of by) (lone x) by)
     (quoted_text text) (Codes field equal (Text text))
 unfolding lone_field field_cond
 reads_text_behind field equal x by text is asks coded =

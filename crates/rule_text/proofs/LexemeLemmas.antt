@@ -1,5 +1,7 @@
 -- Words, numbers, codes and marks at the front of what is left of a text.
-use Rattle.std.proofs.Common.{◌≡◌, ℕ, zero, suc, ◌+◌, ◌/◌, ◌^◌, ◌<◌, ◌≤◌, Bool, true, false, List, [], ◌∷◌, ◌++◌, take, drop, length, slice_index, min, Some, pos, codes, ◌==◌, arith, refl, ap, ◌∙◌, append_assoc}
+use Rattle.std.proofs.Common.{◌≡◌, ℕ, zero, suc, ◌+◌, ◌/◌, ◌^◌, ◌<◌, ◌≤◌, Bool, true, false, List}
+use Rattle.std.proofs.Common.{[], ◌∷◌, ◌++◌, take, drop, length, slice_index, min, Some, pos, codes}
+use Rattle.std.proofs.Common.{◌==◌, arith, refl, ap, ◌∙◌, append_assoc}
 use Rattle.std.proofs.lemmas.Bool.{and_parts}
 use Rattle.std.specs.List.{prefix_len, list_all}
 use Rattle.std.specs.Char.{is_ascii_alphabetic, is_ascii_digit, is_ascii_lowercase}
@@ -7,14 +9,21 @@ use Rattle.std.proofs.lemmas.Bool.Decides.{nat_tests}
 use Rattle.std.proofs.lemmas.List.{take_at, length-append, append-nil, get_or_at, get_or-append-add}
 use Rattle.std.proofs.Math.Seq.{drop-append-add}
 use Rattle.reg_base.specs.Codes.{is_code, is_code_byte, is_name, is_name_byte}
-use Rattle.reg_base.specs.Numbers.{largest_units, decimal_value, read_on, last_digits, number_text, units_text, sum_text}
-use Rattle.reg_base.proofs.DigitLemmas.{all_digits-last_digits, read_on-last_digits, length-last_digits}
-use Rattle.reg_base.proofs.PointTextLemmas.{all_digits-number_text, decimal_value-number_text, number_text-some}
-use Rattle.reg_base.proofs.SumTextLemmas.{prefix_len-all}
+use Rattle.reg_base.specs.Numbers.{largest_units, decimal_value, read_on, last_digits, number_text}
+use Rattle.reg_base.specs.Numbers.{units_text, sum_text}
+use Rattle.reg_base.proofs.ForAbove.{all_digits-last_digits, read_on-last_digits}
+use Rattle.reg_base.proofs.ForAbove.{length-last_digits}
+use Rattle.reg_base.proofs.ForAbove.{all_digits-number_text, decimal_value-number_text}
+use Rattle.reg_base.proofs.ForAbove.{number_text-some}
+use Rattle.reg_base.proofs.ForAbove.{prefix_len-all}
 use Rattle.rule_text.specs.Marks.{mark_text, double_mark, single_mark}
-use Rattle.rule_text.specs.Tokens.{is_blank, is_word_byte, lexeme, word_lexeme, number_lexeme, decimal_count, closed_code, quoted_lexeme, mark_lexeme, lexeme_of}
+use Rattle.rule_text.specs.Tokens.{is_blank, is_word_byte, lexeme, word_lexeme, number_lexeme}
+use Rattle.rule_text.specs.Tokens.{decimal_count, closed_code, quoted_lexeme, mark_lexeme}
+use Rattle.rule_text.specs.Tokens.{lexeme_of}
 use Rattle.rule_text.specs.declared.mark.Mark.{Mark}
-use Rattle.rule_text.specs.declared.mark.Mark.TheVariants.{Open, Close, Semicolon, Comma, Equal, Point, Plus, Minus, Less, AtMost, AtLeast, Greater, Differs}
+use Rattle.rule_text.specs.declared.mark.Mark.TheVariants.{Open, Close, Semicolon, Comma, Equal}
+use Rattle.rule_text.specs.declared.mark.Mark.TheVariants.{Point, Plus, Minus, Less, AtMost}
+use Rattle.rule_text.specs.declared.mark.Mark.TheVariants.{AtLeast, Greater, Differs}
 use Rattle.rule_text.specs.declared.token.Spelling.TheVariants.{Named}
 use Rattle.rule_text.specs.declared.token.Token.{Token}
 use Rattle.rule_text.specs.declared.token.Token.TheVariants.{Word, Number, Quoted, Sign}

@@ -1,21 +1,26 @@
 pub mod TokenLemmas
 pub mod ReaderLemmas
-pub mod SpellingLemmas
-pub mod PlainTexts
-pub mod ReadTests
-pub mod SpeltTokens
-pub mod GivesLemmas
-pub mod SumReads
-pub mod StatementReads
-pub mod TextTokens
-pub mod LexemeLemmas
-pub mod ReadBack
-pub mod TokensBack
-pub mod ListsBack
-pub mod SumsBack
-pub mod BindsBack
-pub mod ActsBack
-pub mod ConditionsBack
-pub mod StatementsBack
-pub mod TextsReadBack
+mod SpellingLemmas
+mod PlainTexts
+mod ReadTests
+mod SpeltTokens
+mod GivesLemmas
+mod SumReads
+mod StatementReads
+mod TextTokens
+mod LexemeLemmas
+mod ReadBack
+mod TokensBack
+mod ListsBack
+mod SumsBack
+mod BindsBack
+mod ActsBack
+mod ConditionsBack
+mod StatementsBack
+mod TextsReadBack
+mod Decided
+mod DecidedLists
+mod DecidedStatements
+mod RefusalLemmas
+pub mod ForAbove
 mod WorkedRows

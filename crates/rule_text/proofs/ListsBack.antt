@@ -1,9 +1,10 @@
 -- Lists read back what was written, with a joint in front of each element but the first.
-use Rattle.std.proofs.Common.{◌≡◌, ℕ, zero, suc, ◌+◌, ◌≤◌, Bool, true, List, [], ◌∷◌, ◌++◌, length, Option, Some, None, arith, refl, append_assoc}
+use Rattle.std.proofs.Common.{◌≡◌, ℕ, zero, suc, ◌+◌, ◌≤◌, Bool, true, List, [], ◌∷◌, ◌++◌, length}
+use Rattle.std.proofs.Common.{Option, Some, None, arith, refl, append_assoc}
 use Rattle.std.proofs.lemmas.Bool.{and_parts}
 use Rattle.std.specs.List.{flat_map, list_all}
 use Rattle.std.proofs.lemmas.List.{length-append}
-use Rattle.rule_text.specs.Readers.{Reader, more_of, many, list_on, list_of}
+use Rattle.rule_text.specs.Readers.{Reader, more_of, many, list_on, list_reader}
 use Rattle.rule_text.proofs.TextTokens.{tokens_at}
 use Rattle.rule_text.proofs.ReadBack.{ReadsBack, TakesToken, then_reads, then_gives, reads_nothing}
 
@@ -79,7 +80,7 @@ pub reads_list_of : {X : Type 0} {follows ends : List ℕ → Type 0} {read : Re
     → {next : Reader (Option X)} {text : List ℕ} {piece : X → List ℕ} {fits : X → Bool} {x : X}
     → ReadsBack follows read text x → ReadsMore follows ends next piece fits
     → (xs : List X) → list_all fits xs ≡ true
-    → ReadsBack ends (list_of read next) (text ++ flat_map piece xs) (x ∷ xs)
-unfolding list_of
+    → ReadsBack ends (list_reader read next) (text ++ flat_map piece xs) (x ∷ xs)
+unfolding list_reader
 reads_list_of {next = next} {x = x} h more xs fit =
     then_reads _ h (reads_list_on more (x ∷ []) xs fit) (λ rest end. may_follow more xs rest end)

@@ -1,6 +1,7 @@
 -- The text of statements as they are written anew: one space between words, behind commas, behind
 -- the semicolons between parentheses and around marks between terms; none elsewhere.
-use Rattle.std.proofs.Common.{ℕ, Bool, true, false, not, ◌&&◌, List, [], ◌∷◌, ◌++◌, length, ◌+◌, Option, Some, None, codes, nat_le, pos}
+use Rattle.std.proofs.Common.{ℕ, Bool, true, false, not, ◌&&◌, List, [], ◌∷◌, ◌++◌, length, ◌+◌}
+use Rattle.std.proofs.Common.{Option, Some, None, codes, nat_le, pos}
 use Rattle.std.specs.List.{flat_map, list_all}
 use Rattle.reg_base.specs.Codes.{is_code, is_name}
 use Rattle.reg_base.specs.Numbers.{largest_units, sum_text}
@@ -8,11 +9,13 @@ use Rattle.rule_text.specs.declared.token.Literal.{Literal}
 use Rattle.rule_text.specs.declared.token.Spelling.{Spelling}
 use Rattle.rule_text.specs.declared.token.Spelling.TheVariants.{Named, Other}
 use Rattle.rule_text.specs.declared.plain.PlainAct.{PlainAct}
-use Rattle.rule_text.specs.declared.plain.PlainAct.TheVariants.{Make, WriteOff, Require, Control, Entry}
+use Rattle.rule_text.specs.declared.plain.PlainAct.TheVariants.{Make, WriteOff, Require, Control}
+use Rattle.rule_text.specs.declared.plain.PlainAct.TheVariants.{Entry}
 use Rattle.rule_text.specs.declared.plain.PlainAmount.{PlainAmount}
 use Rattle.rule_text.specs.declared.plain.PlainBind.{PlainBind}
 use Rattle.rule_text.specs.declared.plain.PlainCode.{PlainCode}
-use Rattle.rule_text.specs.declared.plain.PlainCode.TheVariants.{Text, Head as HeadCode, Line as LineCode}
+use Rattle.rule_text.specs.declared.plain.PlainCode.TheVariants.{Text, Head as HeadCode}
+use Rattle.rule_text.specs.declared.plain.PlainCode.TheVariants.{Line as LineCode}
 use Rattle.rule_text.specs.declared.plain.PlainCond.{PlainCond}
 use Rattle.rule_text.specs.declared.plain.PlainCond.TheVariants.{Sums, Codes}
 use Rattle.rule_text.specs.declared.plain.PlainPart.{PlainPart}
@@ -26,7 +29,8 @@ use Rattle.rule_text.specs.declared.plain.Scope.{Scope}
 use Rattle.rule_text.specs.declared.plain.Scope.TheVariants.{Once, EachLine}
 use Rattle.rule_text.specs.declared.plain.Target.{Target}
 use Rattle.rule_text.specs.declared.plain.Test.{Test}
-use Rattle.rule_text.specs.declared.plain.Test.TheVariants.{Less, AtMost, Equal, AtLeast, Greater, Differs}
+use Rattle.rule_text.specs.declared.plain.Test.TheVariants.{Less, AtMost, Equal, AtLeast, Greater}
+use Rattle.rule_text.specs.declared.plain.Test.TheVariants.{Differs}
 use Rattle.rule_text.specs.declared.plain.Verb.{Verb}
 use Rattle.rule_text.specs.declared.plain.Verb.TheVariants.{Receipt, Expense, Turn}
 
@@ -168,7 +172,8 @@ when_text (Some cond) = codes " when " ++ cond_text cond
 -- a statement on a line of its own
 unfoldable pub statement_text : PlainStatement → List ℕ
 statement_text statement =
-    scope_text statement.scope ++ (act_text statement.act ++ (when_text statement.when ++ codes ";\n"))
+    scope_text statement.scope ++ (act_text statement.act ++ (when_text statement.when ++ codes
+    ";\n"))
 
 -- statements, one behind the other
 unfoldable pub statements_text : List PlainStatement → List ℕ
@@ -255,7 +260,8 @@ has_text (LineCode field) (HeadCode _) = false
 has_text (LineCode field) (LineCode _) = false
 
 unfoldable pub cond_fits : (Literal → Bool) → PlainCond → Bool
-cond_fits literal_fits (Sums left test right) = terms_fit literal_fits left && terms_fit literal_fits right
+cond_fits literal_fits (Sums left test right) = terms_fit literal_fits left && terms_fit
+    literal_fits right
 cond_fits literal_fits (Codes left equal right) =
     has_text left right && (code_fits left && code_fits right)
 

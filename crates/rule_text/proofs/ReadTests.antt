@@ -1,4 +1,5 @@
--- What holds of each plain statement that is read: a word that is a name is one, codes are codes, sums
+-- What holds of each plain statement that is read: a word that is a name is one, codes are codes,
+-- sums
 -- are not empty and begin without a joint, and of two codes that are compared one is a text. A word
 -- that is no name may stand for a name: nothing has it.
 use Rattle.std.proofs.Common.{Bool, true, false, not, ◌&&◌, List, [], ◌∷◌, Option, Some, None}
@@ -7,11 +8,13 @@ use Rattle.reg_base.specs.Codes.{is_code, is_name}
 use Rattle.rule_text.specs.declared.token.Spelling.{Spelling}
 use Rattle.rule_text.specs.declared.token.Spelling.TheVariants.{Named, Other}
 use Rattle.rule_text.specs.declared.plain.PlainAct.{PlainAct}
-use Rattle.rule_text.specs.declared.plain.PlainAct.TheVariants.{Make, WriteOff, Require, Control, Entry}
+use Rattle.rule_text.specs.declared.plain.PlainAct.TheVariants.{Make, WriteOff, Require, Control}
+use Rattle.rule_text.specs.declared.plain.PlainAct.TheVariants.{Entry}
 use Rattle.rule_text.specs.declared.plain.PlainAmount.{PlainAmount}
 use Rattle.rule_text.specs.declared.plain.PlainBind.{PlainBind}
 use Rattle.rule_text.specs.declared.plain.PlainCode.{PlainCode}
-use Rattle.rule_text.specs.declared.plain.PlainCode.TheVariants.{Text, Head as HeadCode, Line as LineCode}
+use Rattle.rule_text.specs.declared.plain.PlainCode.TheVariants.{Text, Head as HeadCode}
+use Rattle.rule_text.specs.declared.plain.PlainCode.TheVariants.{Line as LineCode}
 use Rattle.rule_text.specs.declared.plain.PlainCond.{PlainCond}
 use Rattle.rule_text.specs.declared.plain.PlainCond.TheVariants.{Sums, Codes}
 use Rattle.rule_text.specs.declared.plain.PlainPart.{PlainPart}

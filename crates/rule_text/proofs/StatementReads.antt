@@ -1,24 +1,32 @@
 -- Conditions, acts and whole statements that are read pass their tests.
-use Rattle.std.proofs.Common.{◌≡◌, ℕ, Bool, true, false, not, ◌&&◌, codes, List, [], ◌∷◌, Option, Some, None, option_and_then, Ok, Err, IfOk, refl}
+use Rattle.std.proofs.Common.{◌≡◌, ℕ, Bool, true, false, not, ◌&&◌, codes, List, [], ◌∷◌, Option}
+use Rattle.std.proofs.Common.{Some, None, option_and_then, Ok, Err, IfOk, refl}
 use Rattle.std.specs.List.{list_all}
 use Rattle.std.proofs.lemmas.Bool.{and_from, and_parts}
 use Rattle.reg_base.specs.Codes.{is_code}
-use Rattle.rule_text.specs.Acts.{make, write_off, require, control, next_code, extra_codes, account_side, side, sides, entry, front_opening, act_of, verb, act}
+use Rattle.rule_text.specs.Acts.{make, write_off, require, control, next_code, extra_codes}
+use Rattle.rule_text.specs.Acts.{account_side, side, sides, entry, front_opening, act_of, verb, act}
 use Rattle.rule_text.specs.Binds.{target, amount, amounts}
-use Rattle.rule_text.specs.Conditions.{front_test, comparison as test_mark, equality, text_cond, sums_cond, field_cond, compared, sum_cond, cond, when}
+use Rattle.rule_text.specs.Conditions.{front_test, comparison as test_mark, equality, text_cond}
+use Rattle.rule_text.specs.Conditions.{sums_cond, field_cond, code_or_sum_cond, sum_cond, cond}
+use Rattle.rule_text.specs.Conditions.{when}
 use Rattle.rule_text.specs.Fronts.{is_mark_next, is_word_next}
 use Rattle.rule_text.specs.Plain.{lone_field, equality_of}
-use Rattle.rule_text.specs.Readers.{Read, ◌>>=◌, give, mark, word, name, code_if, quoted, ends, list_of, list_on}
+use Rattle.rule_text.specs.Readers.{Read, ◌>>=◌, give, mark, word, name, code_if, quoted}
+use Rattle.rule_text.specs.Readers.{list_reader}
 use Rattle.rule_text.specs.Sentences.{scope, statement, next_statement, statements, statements_of}
 use Rattle.rule_text.specs.Sums.{code, sum}
 use Rattle.rule_text.specs.Tokens.{tokens_of}
 use Rattle.rule_text.specs.declared.acts.Opening.{Opening}
-use Rattle.rule_text.specs.declared.acts.Opening.TheVariants.{Makes, WritesOff, Requires, Controls, Enters}
+use Rattle.rule_text.specs.declared.acts.Opening.TheVariants.{Makes, WritesOff, Requires, Controls}
+use Rattle.rule_text.specs.declared.acts.Opening.TheVariants.{Enters}
 use Rattle.rule_text.specs.declared.fault.ReadFault.TheVariants.{Stuck, Memory}
 use Rattle.rule_text.specs.declared.mark.Mark.TheVariants.{Open, Close, Semicolon, Comma, AtLeast}
-use Rattle.rule_text.specs.declared.plain.PlainAct.TheVariants.{Make, WriteOff, Require, Control, Entry}
+use Rattle.rule_text.specs.declared.plain.PlainAct.TheVariants.{Make, WriteOff, Require, Control}
+use Rattle.rule_text.specs.declared.plain.PlainAct.TheVariants.{Entry}
 use Rattle.rule_text.specs.declared.plain.PlainCode.{PlainCode}
-use Rattle.rule_text.specs.declared.plain.PlainCode.TheVariants.{Text, Head as HeadCode, Line as LineCode}
+use Rattle.rule_text.specs.declared.plain.PlainCode.TheVariants.{Text, Head as HeadCode}
+use Rattle.rule_text.specs.declared.plain.PlainCode.TheVariants.{Line as LineCode}
 use Rattle.rule_text.specs.declared.plain.PlainCond.TheVariants.{Sums, Codes}
 use Rattle.rule_text.specs.declared.plain.PlainPart.{PlainPart}
 use Rattle.rule_text.specs.declared.plain.PlainPart.TheVariants.{Number, Head, Line, Total, Cost}
@@ -28,32 +36,44 @@ use Rattle.rule_text.specs.declared.plain.Scope.TheVariants.{Once, EachLine}
 use Rattle.rule_text.specs.declared.plain.Test.{Test}
 use Rattle.rule_text.specs.declared.plain.Verb.{Verb}
 use Rattle.rule_text.specs.declared.token.Lexeme.{Lexeme}
-use Rattle.rule_text.proofs.ReadTests.{spelling_read, code_read, part_read, terms_read, target_read, amount_read, amounts_read, side_read, act_read, cond_read, when_read, statement_read}
+use Rattle.rule_text.proofs.ReadTests.{spelling_read, code_read, part_read, terms_read, target_read}
+use Rattle.rule_text.proofs.ReadTests.{amount_read, amounts_read, side_read, act_read, cond_read}
+use Rattle.rule_text.proofs.ReadTests.{when_read, statement_read}
 use Rattle.rule_text.proofs.SpeltTokens.{are_read, tokens_of-read, found_cases}
-use Rattle.rule_text.proofs.GivesLemmas.{Passes, Gives, any, if_some, then-gives, follows-gives, give-gives, takes-then, mark-gives, word-gives, name-gives, code_if-gives, quoted-gives, ends-gives, first_and_others, list_of-gives, list_on-gives, taken-gives, drop-read, by_test}
-use Rattle.rule_text.proofs.SumReads.{code-gives, sum-gives, after_comma-gives, target-gives, amount-gives, amounts-gives, all-pass}
+use Rattle.rule_text.proofs.GivesLemmas.{Passes, Gives, any, if_some, then-gives, follows-gives}
+use Rattle.rule_text.proofs.GivesLemmas.{give-gives, takes-then, mark-gives, word-gives, name-gives}
+use Rattle.rule_text.proofs.GivesLemmas.{code_if-gives, quoted-gives, first_and_others}
+use Rattle.rule_text.proofs.GivesLemmas.{list_reader-gives, list_on-gives, take_front-gives}
+use Rattle.rule_text.proofs.GivesLemmas.{drop-read, by_test}
+use Rattle.rule_text.proofs.SumReads.{code-gives, sum-gives, after_comma-gives, target-gives}
+use Rattle.rule_text.proofs.SumReads.{amount-gives, amounts-gives, all-pass}
 
 -- Conditions
 
 test-gives : Gives any test_mark
 unfolding test_mark
-test-gives = record { each = λ tokens are. (taken-gives (front_test tokens)).each tokens are }
+test-gives = record { each = λ tokens are. (take_front-gives (front_test tokens)).each tokens are }
 
 equality-gives : Gives any equality
 unfolding equality
-equality-gives = record { each = λ tokens are. (taken-gives (option_and_then equality_of (front_test tokens))).each tokens are }
+equality-gives = record {
+  each = λ tokens are.
+      (take_front-gives (option_and_then equality_of (front_test tokens))).each tokens are;
+}
 
 text_cond-gives : (text : List ℕ) → is_code text ≡ true → Gives cond_read (text_cond text)
 unfolding text_cond cond_read code_read
 text_cond-gives text is = then-gives _ _ equality any equality-gives
     (λ equal h. then-gives _ _ code code_read code-gives
-    (λ right r. give-gives cond_read (Codes (Text text) equal right) (and_from (is_code text) (code_read right) is r)))
+    (λ right r. give-gives cond_read (Codes (Text text) equal right)
+    (and_from (is_code text) (code_read right) is r)))
 
 sums_cond-gives : (left : List PlainTerm) (by : Test) → terms_read left ≡ true
     → Gives cond_read (sums_cond left by)
 unfolding sums_cond cond_read
 sums_cond-gives left by l = then-gives _ _ sum terms_read sum-gives
-    (λ right r. give-gives cond_read (Sums left by right) (and_from (terms_read left) (terms_read right) l r))
+    (λ right r. give-gives cond_read (Sums left by right) (and_from (terms_read left)
+    (terms_read right) l r))
 
 -- a text behind a field is on one side
 field_and_text : (field : PlainCode) (equal : Bool) (text : List ℕ) → code_read field ≡ true
@@ -61,27 +81,34 @@ field_and_text : (field : PlainCode) (equal : Bool) (text : List ℕ) → code_r
     → cond_read (Codes field equal (Text text)) ≡ true
 unfolding cond_read code_read
 field_and_text (Text other) equal text f t = and_from (is_code other) (is_code text) f t
-field_and_text (HeadCode spelling) equal text f t = and_from (spelling_read spelling) (is_code text) f t
-field_and_text (LineCode spelling) equal text f t = and_from (spelling_read spelling) (is_code text) f t
+field_and_text (HeadCode spelling) equal text f t = and_from (spelling_read spelling) (is_code text)
+    f t
+field_and_text (LineCode spelling) equal text f t = and_from (spelling_read spelling) (is_code text)
+    f t
 
 field_cond-gives : (field : PlainCode) (equal : Bool) (left : List PlainTerm) (by : Test)
     → code_read field ≡ true → terms_read left ≡ true
     → Gives cond_read (field_cond field equal left by)
 unfolding field_cond
-field_cond-gives field equal left by f l = then-gives _ _ code_if (if_some is_code) code_if-gives (elim [
-  | Some text ↦ λ h. give-gives cond_read (Codes field equal (Text text)) (field_and_text field equal text f h)
-  | None ↦ λ h. sums_cond-gives left by l
-])
+field_cond-gives field equal left by f l = then-gives _ _ code_if (if_some is_code) code_if-gives
+    (elim [
+      | Some text ↦ λ h. give-gives cond_read (Codes field equal (Text text))
+          (field_and_text field equal text f h)
+      | None ↦ λ h. sums_cond-gives left by l
+    ])
 
-compared-gives : (field : Option PlainCode) (equal : Option Bool) (left : List PlainTerm) (by : Test)
+code_or_sum_cond-gives : (field : Option PlainCode) (equal : Option Bool) (left : List PlainTerm)
+    (by : Test)
     → if_some code_read field ≡ true → terms_read left ≡ true
-    → Gives cond_read (compared field equal left by)
-compared-gives (Some field) (Some equal) left by f l = field_cond-gives field equal left by f l
-compared-gives (Some field) None left by f l = sums_cond-gives left by l
-compared-gives None equal left by f l = sums_cond-gives left by l
+    → Gives cond_read (code_or_sum_cond field equal left by)
+code_or_sum_cond-gives (Some field) (Some equal) left by f l = field_cond-gives field equal left by
+    f l
+code_or_sum_cond-gives (Some field) None left by f l = sums_cond-gives left by l
+code_or_sum_cond-gives None equal left by f l = sums_cond-gives left by l
 
 lone_part-read : (minus negative : Bool) (part : PlainPart) → part_read part ≡ true
-    → if_some code_read (lone_field (record { minus = minus; negative = negative; part = part } ∷ [])) ≡ true
+    → if_some code_read (lone_field (record { minus = minus; negative = negative; part = part }
+    ∷ [])) ≡ true
 unfolding lone_field part_read code_read
 lone_part-read minus true part h = refl
 lone_part-read minus false (Head field) h = h
@@ -104,7 +131,8 @@ sum_cond-gives : Gives cond_read sum_cond
 unfolding sum_cond
 sum_cond-gives = then-gives _ _ sum terms_read sum-gives
     (λ left l. then-gives _ _ test_mark any test-gives
-    (λ by h. compared-gives (lone_field left) (equality_of by) left by (lone_field-read left l) l))
+    (λ by h. code_or_sum_cond-gives (lone_field left) (equality_of by) left by
+    (lone_field-read left l) l))
 
 cond-gives : Gives cond_read cond
 unfolding cond
@@ -116,7 +144,8 @@ cond-gives = then-gives _ _ code_if (if_some is_code) code_if-gives (elim [
 when-gives : Gives when_read when
 unfolding when when_read
 when-gives = takes-then _ _ (is_word_next (codes "when"))
-    (then-gives _ _ cond cond_read cond-gives (λ condition c. give-gives when_read (Some condition) c))
+    (then-gives _ _ cond cond_read cond-gives (λ condition c. give-gives when_read (Some condition)
+    c))
     (give-gives when_read None refl)
 
 -- Acts
@@ -126,7 +155,8 @@ unfolding make act_read
 make-gives verb = then-gives _ _ target target_read target-gives
     (λ to t. then-gives _ _ amounts amounts_read amounts-gives
     (λ sums s. then-gives _ _ (mark Close) any (mark-gives Close)
-    (λ u h. give-gives act_read (Make verb to sums) (and_from (target_read to) (amounts_read sums) t s))))
+    (λ u h. give-gives act_read (Make verb to sums) (and_from (target_read to) (amounts_read sums) t
+    s))))
 
 write_off-gives : (fifo : Bool) → Gives act_read (write_off fifo)
 unfolding write_off act_read
@@ -157,12 +187,15 @@ control-gives : Gives act_read control
 unfolding control act_read
 control-gives = then-gives _ _ name spelling_read name-gives
     (λ register r. then-gives _ _ name spelling_read name-gives
-    (λ resource s. give-gives act_read (Control register resource) (and_from (spelling_read register) (spelling_read resource) r s)))
+    (λ resource s. give-gives act_read (Control register resource)
+    (and_from (spelling_read register) (spelling_read resource) r s)))
 
-some_codes-gives : Gives (list_all code_read) (list_of code next_code)
+some_codes-gives : Gives (list_all code_read) (list_reader code next_code)
 unfolding next_code
-some_codes-gives = follows-gives (first_and_others code_read code_read) (list_all code_read) (all-pass code_read) _
-    (list_of-gives code_read code_read code _ code-gives (after_comma-gives code_read code code-gives))
+some_codes-gives = follows-gives (first_and_others code_read code_read) (list_all code_read)
+    (all-pass code_read) _
+    (list_reader-gives code_read code_read code _ code-gives
+    (after_comma-gives code_read code code-gives))
 
 extra_codes-gives : Gives (list_all code_read) extra_codes
 unfolding extra_codes
@@ -182,7 +215,8 @@ account_side-gives = then-gives _ _ code code_read code-gives
 
 side-gives : Gives side_read side
 unfolding side side_read
-side-gives = takes-then _ _ (is_word_next (codes "none")) (give-gives side_read None refl) account_side-gives
+side-gives = takes-then _ _ (is_word_next (codes "none")) (give-gives side_read None refl)
+    account_side-gives
 
 -- both sides
 abbrev sides_read : PlainSides → Bool
@@ -208,7 +242,8 @@ entry-gives = then-gives _ _ name spelling_read name-gives
     (λ amount a. then-gives _ _ (mark Close) any (mark-gives Close)
     (λ w j. let (debit, credit) = and_parts (side_read both.debit) (side_read both.credit) b in
     give-gives act_read (Entry ledger both amount)
-    (and_from (spelling_read ledger) (side_read both.debit && (side_read both.credit && terms_read amount)) l
+    (and_from (spelling_read ledger) (side_read both.debit && (side_read both.credit && terms_read
+    amount)) l
     (and_from (side_read both.debit) (side_read both.credit && terms_read amount) debit
     (and_from (side_read both.credit) (terms_read amount) credit a)))))))))
 
@@ -237,7 +272,8 @@ scope-gives : Gives any scope
 unfolding scope
 scope-gives = takes-then _ _ (is_word_next (codes "once")) (give-gives any (Some Once) refl)
     (takes-then _ _ (is_word_next (codes "each"))
-    (then-gives _ _ (word (codes "line")) any (word-gives (codes "line")) (λ u h. give-gives any (Some EachLine) refl))
+    (then-gives _ _ (word (codes "line")) any (word-gives (codes "line"))
+    (λ u h. give-gives any (Some EachLine) refl))
     (give-gives any None refl))
 
 statement-gives : (place : ℕ) → Gives statement_read (statement place)
@@ -257,15 +293,15 @@ next_statement-passes : (tokens : List Lexeme) → are_read tokens ≡ true
     → Passes (if_some statement_read) (next_statement tokens)
 unfolding next_statement
 next_statement-passes [] are = (refl, refl)
-next_statement-passes (token ∷ tokens) are = (some_statement-gives token.place).each (token ∷ tokens) are
+next_statement-passes (token ∷ tokens) are = (some_statement-gives token.place).each
+    (token ∷ tokens) are
 
 next_statement-gives : Gives (if_some statement_read) next_statement
 next_statement-gives = record { each = next_statement-passes }
 
 statements-gives : Gives (list_all statement_read) statements
 unfolding statements
-statements-gives = then-gives _ _ (list_on [] next_statement) (list_all statement_read) (list_on-gives statement_read next_statement next_statement-gives)
-    (λ all h. then-gives _ _ ends any ends-gives (λ u i. give-gives (list_all statement_read) all h))
+statements-gives = list_on-gives statement_read next_statement next_statement-gives
 
 -- what follows where a value was read, and where none was
 read_cases : {X G : Type 0} (read : Read X) → ((r : X × List Lexeme) → read ≡ Ok r → G)
@@ -279,5 +315,7 @@ pub statements_of-fits : (text : List ℕ)
     → IfOk (statements_of text) (λ ps. list_all statement_read ps ≡ true)
 unfolding statements_of
 statements_of-fits text =
-    let passes : Passes (list_all statement_read) (statements (tokens_of text)) = statements-gives.each (tokens_of text) (tokens_of-read text) in
-    read_cases (statements (tokens_of text)) (λ r e. rw e (rw e at passes).0) (λ place e. rw e tt) (λ e. rw e tt)
+    let passes : Passes (list_all statement_read) (statements (tokens_of text)) =
+    statements-gives.each (tokens_of text) (tokens_of-read text) in
+    read_cases (statements (tokens_of text)) (λ r e. rw e (rw e at passes).0) (λ place e. rw e tt)
+    (λ e. rw e tt)

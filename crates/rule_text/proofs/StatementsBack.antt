@@ -1,5 +1,6 @@
 -- Statements are read back as they were written.
-use Rattle.std.proofs.Common.{◌≡◌, ℕ, suc, ◌+◌, true, false, List, [], ◌∷◌, ◌++◌, length, Option, Some, None, option_map, codes, arith, refl, ap, ◌∙◌, append_assoc}
+use Rattle.std.proofs.Common.{◌≡◌, ℕ, suc, ◌+◌, true, false, List, [], ◌∷◌, ◌++◌, length, Option}
+use Rattle.std.proofs.Common.{Some, None, option_map, codes, arith, refl, ap, ◌∙◌, append_assoc}
 use Rattle.std.proofs.lemmas.Bool.{and_parts}
 use Rattle.std.proofs.lemmas.List.{length-append}
 use Rattle.reg_base.specs.Codes.{is_name}
@@ -12,16 +13,21 @@ use Rattle.rule_text.specs.declared.mark.Mark.TheVariants.{Semicolon}
 use Rattle.rule_text.specs.declared.token.Spelling.TheVariants.{Named}
 use Rattle.rule_text.specs.declared.token.Token.TheVariants.{Word}
 use Rattle.rule_text.specs.declared.plain.PlainAct.{PlainAct}
-use Rattle.rule_text.specs.declared.plain.PlainAct.TheVariants.{Make, WriteOff, Require, Control, Entry}
+use Rattle.rule_text.specs.declared.plain.PlainAct.TheVariants.{Make, WriteOff, Require, Control}
+use Rattle.rule_text.specs.declared.plain.PlainAct.TheVariants.{Entry}
 use Rattle.rule_text.specs.declared.plain.PlainCond.{PlainCond}
 use Rattle.rule_text.specs.declared.plain.PlainStatement.{PlainStatement}
 use Rattle.rule_text.specs.declared.plain.Scope.{Scope}
 use Rattle.rule_text.specs.declared.plain.Scope.TheVariants.{Once, EachLine}
 use Rattle.rule_text.specs.declared.plain.Verb.TheVariants.{Receipt, Expense, Turn}
-use Rattle.rule_text.proofs.PlainTexts.{act_text, scope_text, when_text, statement_text, is_small, act_fits, when_fits, statement_fits}
+use Rattle.rule_text.proofs.PlainTexts.{act_text, scope_text, when_text, statement_text, is_small}
+use Rattle.rule_text.proofs.PlainTexts.{act_fits, when_fits, statement_fits}
 use Rattle.rule_text.proofs.TextTokens.{tokens_at, tokens_at-blank, first_place}
-use Rattle.rule_text.proofs.ReadBack.{ReadsBack, TakesToken, Anything, then_reads, then_gives, behind_blank, before_less, takes_later, NotNext, takes_nothing, takes_nothing_before}
-use Rattle.rule_text.proofs.TokensBack.{EndsWord, is_word, is_mark, takes-token, begins-token, reads_mark, reads_word, takes_word, not_word}
+use Rattle.rule_text.proofs.ReadBack.{ReadsBack, TakesToken, Anything, then_reads, then_gives}
+use Rattle.rule_text.proofs.ReadBack.{behind_blank, before_less, takes_later, NotNext}
+use Rattle.rule_text.proofs.ReadBack.{takes_nothing, takes_nothing_before}
+use Rattle.rule_text.proofs.TokensBack.{EndsWord, is_word, is_mark, takes-token, begins-token}
+use Rattle.rule_text.proofs.TokensBack.{reads_mark, reads_word, takes_word, not_word}
 use Rattle.rule_text.proofs.BindsBack.{ends_sum}
 use Rattle.rule_text.proofs.ActsBack.{reads_act}
 use Rattle.rule_text.proofs.ConditionsBack.{EndsWhen, reads_when}

@@ -1,13 +1,18 @@
 -- Codes, sums, binds and conditions that are read pass their tests.
-use Rattle.std.proofs.Common.{◌≡◌, Bool, true, false, not, ◌&&◌, codes, List, [], ◌∷◌, Some, None, refl}
+use Rattle.std.proofs.Common.{◌≡◌, Bool, true, false, not, ◌&&◌, codes, List, [], ◌∷◌, Some, None}
+use Rattle.std.proofs.Common.{refl}
 use Rattle.std.specs.List.{list_all}
 use Rattle.std.proofs.lemmas.Bool.{and_from, and_parts}
 use Rattle.reg_base.specs.Codes.{is_code}
-use Rattle.rule_text.specs.Binds.{bind_to, bind, after_comma, next_bind, binds, target, amount, next_amount, amounts}
-use Rattle.rule_text.specs.Fronts.{is_mark_next, is_word_next, number_of}
-use Rattle.rule_text.specs.Readers.{Reader, pick, takes, mark, name, code_if, list_of}
-use Rattle.rule_text.specs.Sums.{field, owner, code_field, field_code, code, field_part, part, term, joint, next_term, sum}
-use Rattle.rule_text.specs.declared.mark.Mark.TheVariants.{Point as PointMark, Plus as PlusMark, Minus as MinusMark, Semicolon, Comma, Equal as EqualMark, Open}
+use Rattle.rule_text.specs.Binds.{bind_to, bind, after_comma, next_bind, binds, target, amount}
+use Rattle.rule_text.specs.Binds.{next_amount, amounts}
+use Rattle.rule_text.specs.Fronts.{is_mark_next, is_word_next, token_number}
+use Rattle.rule_text.specs.Readers.{Reader, pick, takes, mark, name, code_if, list_reader}
+use Rattle.rule_text.specs.Sums.{field, owner, code_field, field_code, code, field_part, part, term}
+use Rattle.rule_text.specs.Sums.{joint, next_term, sum}
+use Rattle.rule_text.specs.declared.mark.Mark.TheVariants.{Point as PointMark, Plus as PlusMark}
+use Rattle.rule_text.specs.declared.mark.Mark.TheVariants.{Minus as MinusMark, Semicolon, Comma}
+use Rattle.rule_text.specs.declared.mark.Mark.TheVariants.{Equal as EqualMark, Open}
 use Rattle.rule_text.specs.declared.plain.PlainAmount.{PlainAmount}
 use Rattle.rule_text.specs.declared.plain.PlainCode.TheVariants.{Text}
 use Rattle.rule_text.specs.declared.plain.PlainPart.{PlainPart}
@@ -17,8 +22,12 @@ use Rattle.rule_text.specs.declared.plain.PlainTo.TheVariants.{Code, Point}
 use Rattle.rule_text.specs.declared.sums.Owner.{Owner}
 use Rattle.rule_text.specs.declared.sums.Owner.TheVariants.{OfHead, OfLine}
 use Rattle.rule_text.specs.declared.token.Spelling.{Spelling}
-use Rattle.rule_text.proofs.ReadTests.{spelling_read, code_read, part_read, term_read, terms_read, to_read, bind_read, target_read, amount_read, amounts_read}
-use Rattle.rule_text.proofs.GivesLemmas.{Gives, any, if_some, then-gives, follows-gives, give-gives, stuck-gives, takes-gives, number-gives, mark-gives, name-gives, code_if-gives, first_and_others, list_of-gives, takes-then, by_test}
+use Rattle.rule_text.proofs.ReadTests.{spelling_read, code_read, part_read, term_read, terms_read}
+use Rattle.rule_text.proofs.ReadTests.{to_read, bind_read, target_read, amount_read, amounts_read}
+use Rattle.rule_text.proofs.GivesLemmas.{Gives, any, if_some, then-gives, follows-gives, give-gives}
+use Rattle.rule_text.proofs.GivesLemmas.{stuck-gives, takes-gives, number-gives, mark-gives}
+use Rattle.rule_text.proofs.GivesLemmas.{name-gives, code_if-gives, first_and_others}
+use Rattle.rule_text.proofs.GivesLemmas.{list_reader-gives, takes-then, by_test}
 
 field-gives : Gives spelling_read field
 unfolding field
@@ -51,17 +60,21 @@ code-gives = then-gives _ _ code_if (if_some is_code) code_if-gives (elim [
 field_part-gives : Gives part_read field_part
 unfolding field_part part_read
 field_part-gives = takes-then _ _ (is_word_next (codes "total"))
-    (then-gives _ _ field spelling_read field-gives (λ spelling s. give-gives part_read (Total spelling) s))
+    (then-gives _ _ field spelling_read field-gives (λ spelling s. give-gives part_read
+    (Total spelling) s))
     (then-gives _ _ owner any owner-gives (elim [
-      | OfHead ↦ λ h. then-gives _ _ field spelling_read field-gives (λ spelling s. give-gives part_read (Head spelling) s)
-      | OfLine ↦ λ h. then-gives _ _ field spelling_read field-gives (λ spelling s. give-gives part_read (Line spelling) s)
+      | OfHead ↦ λ h. then-gives _ _ field spelling_read field-gives
+          (λ spelling s. give-gives part_read (Head spelling) s)
+      | OfLine ↦ λ h. then-gives _ _ field spelling_read field-gives
+          (λ spelling s. give-gives part_read (Line spelling) s)
     ]))
 
 part-gives : Gives part_read part
 unfolding part part_read
-part-gives = then-gives _ _ (pick number_of) (if_some any) number-gives (elim [
+part-gives = then-gives _ _ (pick token_number) (if_some any) number-gives (elim [
   | Some literal ↦ λ h. give-gives part_read (Number literal) refl
-  | None ↦ λ h. takes-then _ _ (is_word_next (codes "cost")) (give-gives part_read Cost refl) field_part-gives
+  | None ↦ λ h. takes-then _ _ (is_word_next (codes "cost")) (give-gives part_read Cost refl)
+      field_part-gives
 ])
 
 -- a term that a minus joins or not, with a part that passes
@@ -71,18 +84,21 @@ term-gives : (minus : Bool) (test : PlainTerm → Bool)
     → Gives test (term minus)
 unfolding term
 term-gives minus test each = then-gives _ _ (takes (is_mark_next MinusMark)) any (takes-gives _)
-    (λ negative h. then-gives _ _ part part_read part-gives (λ p is. give-gives test _ (each negative p is)))
+    (λ negative h. then-gives _ _ part part_read part-gives (λ p is. give-gives test _
+    (each negative p is)))
 
 joint-gives : Gives any joint
 unfolding joint
 joint-gives = takes-then _ _ (is_mark_next PlusMark) (give-gives any (Some false) refl)
-    (takes-then _ _ (is_mark_next MinusMark) (give-gives any (Some true) refl) (give-gives any None refl))
+    (takes-then _ _ (is_mark_next MinusMark) (give-gives any (Some true) refl)
+    (give-gives any None refl))
 
 next_term-gives : Gives (if_some term_read) next_term
 unfolding next_term
 next_term-gives = then-gives _ _ joint any joint-gives (elim [
   | None ↦ λ h. give-gives (if_some term_read) None refl
-  | Some minus ↦ λ h. then-gives _ _ (term minus) term_read (term-gives minus term_read (λ negative p is. is))
+  | Some minus ↦ λ h. then-gives _ _ (term minus) term_read (term-gives minus term_read
+      (λ negative p is. is))
       (λ t is. give-gives (if_some term_read) (Some t) is)
 ])
 
@@ -97,12 +113,13 @@ first_term-terms [] h = h
 first_term-terms (t ∷ ts) h =
     let (one, others) = and_parts (first_term t) (list_all term_read ts) h in
     let (unjoined, is) = and_parts (not t.minus) (term_read t) one in
-    and_from (not t.minus) (term_read t && list_all term_read ts) unjoined (and_from (term_read t) (list_all term_read ts) is others)
+    and_from (not t.minus) (term_read t && list_all term_read ts) unjoined
+    (and_from (term_read t) (list_all term_read ts) is others)
 
 pub sum-gives : Gives terms_read sum
 unfolding sum
 sum-gives = follows-gives (first_and_others first_term term_read) terms_read first_term-terms _
-    (list_of-gives first_term term_read (term false) next_term
+    (list_reader-gives first_term term_read (term false) next_term
     (term-gives false first_term (λ negative p is. is)) next_term-gives)
 
 bind_to-gives : Gives to_read bind_to
@@ -120,7 +137,8 @@ bind-gives = then-gives _ _ name spelling_read name-gives
 pub after_comma-gives : {X : Type 0} (test : X → Bool) (read : Reader X) → Gives test read
     → Gives (if_some test) (after_comma read)
 after_comma-gives test read each = takes-then _ _ (is_mark_next Comma)
-    (then-gives _ _ read test each (λ x is. give-gives (if_some test) (Some x) is)) (give-gives (if_some test) None refl)
+    (then-gives _ _ read test each (λ x is. give-gives (if_some test) (Some x) is))
+    (give-gives (if_some test) None refl)
 
 -- the first and each other one are each one
 pub all-pass : {X : Type 0} (test : X → Bool) (xs : List X) → first_and_others test test xs ≡ true
@@ -128,10 +146,12 @@ pub all-pass : {X : Type 0} (test : X → Bool) (xs : List X) → first_and_othe
 all-pass test [] h = refl
 all-pass test (x ∷ xs) h = h
 
-some_binds-gives : Gives (list_all bind_read) (list_of bind next_bind)
+some_binds-gives : Gives (list_all bind_read) (list_reader bind next_bind)
 unfolding next_bind
-some_binds-gives = follows-gives (first_and_others bind_read bind_read) (list_all bind_read) (all-pass bind_read) _
-    (list_of-gives bind_read bind_read bind _ bind-gives (after_comma-gives bind_read bind bind-gives))
+some_binds-gives = follows-gives (first_and_others bind_read bind_read) (list_all bind_read)
+    (all-pass bind_read) _
+    (list_reader-gives bind_read bind_read bind _ bind-gives
+    (after_comma-gives bind_read bind bind-gives))
 
 binds-gives : Gives (list_all bind_read) binds
 unfolding binds
@@ -164,4 +184,5 @@ some_amounts (a ∷ others) h = h
 pub amounts-gives : Gives amounts_read amounts
 unfolding amounts next_amount
 amounts-gives = follows-gives (first_and_others amount_read amount_read) amounts_read some_amounts _
-    (list_of-gives amount_read amount_read amount _ amount-gives (after_comma-gives amount_read amount amount-gives))
+    (list_reader-gives amount_read amount_read amount _ amount-gives
+    (after_comma-gives amount_read amount amount-gives))

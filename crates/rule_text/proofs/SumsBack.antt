@@ -1,28 +1,40 @@
 -- Codes, parts, terms and sums are read back as they were written.
-use Rattle.std.proofs.Common.{◌≡◌, ℕ, Bool, true, false, not, List, [], ◌∷◌, ◌++◌, Some, None, codes, refl, subst, cond}
+use Rattle.std.proofs.Common.{◌≡◌, ℕ, Bool, true, false, not, List, [], ◌∷◌, ◌++◌, Some, None}
+use Rattle.std.proofs.Common.{codes, refl, subst, cond}
 use Rattle.std.proofs.lemmas.Bool.{and_parts}
 use Rattle.reg_base.specs.Codes.{is_name}
 use Rattle.rule_text.specs.Marks.{mark_text}
 use Rattle.rule_text.specs.Readers.{Reader}
-use Rattle.rule_text.specs.Fronts.{number_of, is_mark_next, is_word_next}
-use Rattle.rule_text.specs.Sums.{field, owner, field_code, code, field_part, part, term, joint, next_term, sum}
+use Rattle.rule_text.specs.Fronts.{token_number, is_mark_next, is_word_next}
+use Rattle.rule_text.specs.Sums.{field, owner, field_code, code, field_part, part, term, joint}
+use Rattle.rule_text.specs.Sums.{next_term, sum}
 use Rattle.rule_text.specs.Tokens.{lexeme}
 use Rattle.rule_text.specs.declared.mark.Mark.{Mark}
-use Rattle.rule_text.specs.declared.mark.Mark.TheVariants.{Point as PointMark, Plus as PlusMark, Minus as MinusMark}
+use Rattle.rule_text.specs.declared.mark.Mark.TheVariants.{Point as PointMark, Plus as PlusMark}
+use Rattle.rule_text.specs.declared.mark.Mark.TheVariants.{Minus as MinusMark}
 use Rattle.rule_text.specs.declared.sums.Owner.TheVariants.{OfHead, OfLine}
 use Rattle.rule_text.specs.declared.token.Spelling.{Spelling}
 use Rattle.rule_text.specs.declared.token.Spelling.TheVariants.{Named}
 use Rattle.rule_text.specs.declared.token.Token.{Token}
 use Rattle.rule_text.specs.declared.token.Token.TheVariants.{Word, Number as NumberToken}
 use Rattle.rule_text.specs.declared.plain.PlainCode.{PlainCode}
-use Rattle.rule_text.specs.declared.plain.PlainCode.TheVariants.{Text, Head as HeadCode, Line as LineCode}
+use Rattle.rule_text.specs.declared.plain.PlainCode.TheVariants.{Text, Head as HeadCode}
+use Rattle.rule_text.specs.declared.plain.PlainCode.TheVariants.{Line as LineCode}
 use Rattle.rule_text.specs.declared.plain.PlainPart.{PlainPart}
 use Rattle.rule_text.specs.declared.plain.PlainPart.TheVariants.{Number, Head, Line, Total, Cost}
 use Rattle.rule_text.specs.declared.plain.PlainTerm.{PlainTerm}
-use Rattle.rule_text.proofs.PlainTexts.{spelling_text, code_text, part_text, sign_text, term_text, joint_text, terms_text, is_named, is_small, code_fits, part_fits, terms_fit}
+use Rattle.rule_text.proofs.PlainTexts.{spelling_text, code_text, part_text, sign_text, term_text}
+use Rattle.rule_text.proofs.PlainTexts.{joint_text, terms_text, is_named, is_small, code_fits}
+use Rattle.rule_text.proofs.PlainTexts.{part_fits, terms_fit}
 use Rattle.rule_text.proofs.LexemeLemmas.{EndsPart}
-use Rattle.rule_text.proofs.ReadBack.{ReadsBack, TakesToken, Anything, then_reads, then_gives, takes_first, takes_blank, behind_blank, reads_before, before_less, Begins, begins-blank, NotNext, takes_nothing, takes_nothing_before, picks_nothing}
-use Rattle.rule_text.proofs.TokensBack.{EndsWord, is_word, is_mark, is_number, takes-token, begins-token, reads_mark, takes_mark, takes_word, reads_name, reads_code_if, picks_number, no_code_if, not_word, not_mark, none_next, no_code_next}
+use Rattle.rule_text.proofs.ReadBack.{ReadsBack, TakesToken, Anything, then_reads, then_gives}
+use Rattle.rule_text.proofs.ReadBack.{takes_first, takes_blank, behind_blank, reads_before}
+use Rattle.rule_text.proofs.ReadBack.{before_less, Begins, begins-blank, NotNext, takes_nothing}
+use Rattle.rule_text.proofs.ReadBack.{takes_nothing_before, picks_nothing}
+use Rattle.rule_text.proofs.TokensBack.{EndsWord, is_word, is_mark, is_number, takes-token}
+use Rattle.rule_text.proofs.TokensBack.{begins-token, reads_mark, takes_mark, takes_word}
+use Rattle.rule_text.proofs.TokensBack.{reads_name, reads_code_if, picks_number, no_code_if}
+use Rattle.rule_text.proofs.TokensBack.{not_word, not_mark, none_next, no_code_next}
 use Rattle.rule_text.proofs.ListsBack.{ReadsMore, reads_list_of}
 
 -- a point and a field
@@ -89,7 +101,7 @@ pub reads_part : (x : PlainPart) → part_fits is_small x ≡ true
     → ReadsBack EndsPart part (part_text x) x
 unfolding part field_part part_text part_fits part_token is_name
 reads_part (Number literal) fits = then_gives _ (picks_number literal fits) (λ tokens. refl)
-reads_part (Head spelling) fits = then_reads _ (picks_nothing number_of)
+reads_part (Head spelling) fits = then_reads _ (picks_nothing token_number)
     (then_reads _ (takes_nothing (is_word_next (codes "cost")))
     (then_reads _ (takes_nothing (is_word_next (codes "total")))
     (then_reads _ reads_head
@@ -97,8 +109,8 @@ reads_part (Head spelling) fits = then_reads _ (picks_nothing number_of)
     (λ rest end. refl))
     (λ rest end. not_word (begins_part (Head spelling) fits rest end) (codes "total") refl))
     (λ rest end. not_word (begins_part (Head spelling) fits rest end) (codes "cost") refl))
-    (λ rest end. none_next (begins_part (Head spelling) fits rest end) number_of refl)
-reads_part (Line spelling) fits = then_reads _ (picks_nothing number_of)
+    (λ rest end. none_next (begins_part (Head spelling) fits rest end) token_number refl)
+reads_part (Line spelling) fits = then_reads _ (picks_nothing token_number)
     (then_reads _ (takes_nothing (is_word_next (codes "cost")))
     (then_reads _ (takes_nothing (is_word_next (codes "total")))
     (then_reads _ reads_line
@@ -106,17 +118,17 @@ reads_part (Line spelling) fits = then_reads _ (picks_nothing number_of)
     (λ rest end. refl))
     (λ rest end. not_word (begins_part (Line spelling) fits rest end) (codes "total") refl))
     (λ rest end. not_word (begins_part (Line spelling) fits rest end) (codes "cost") refl))
-    (λ rest end. none_next (begins_part (Line spelling) fits rest end) number_of refl)
-reads_part (Total spelling) fits = then_reads _ (picks_nothing number_of)
+    (λ rest end. none_next (begins_part (Line spelling) fits rest end) token_number refl)
+reads_part (Total spelling) fits = then_reads _ (picks_nothing token_number)
     (then_reads _ (takes_nothing (is_word_next (codes "cost")))
     (then_reads _ (takes_word (codes "total") refl)
     (then_gives _ (before_part (reads_field spelling fits)) (λ tokens. refl))
     (λ rest end. refl))
     (λ rest end. not_word (begins_part (Total spelling) fits rest end) (codes "cost") refl))
-    (λ rest end. none_next (begins_part (Total spelling) fits rest end) number_of refl)
-reads_part Cost fits = then_reads _ (picks_nothing number_of)
+    (λ rest end. none_next (begins_part (Total spelling) fits rest end) token_number refl)
+reads_part Cost fits = then_reads _ (picks_nothing token_number)
     (then_gives _ (before_part (takes_word (codes "cost") refl)) (λ tokens. refl))
-    (λ rest end. none_next (begins_part Cost fits rest end) number_of refl)
+    (λ rest end. none_next (begins_part Cost fits rest end) token_number refl)
 
 not_sign : (sign : Mark) (x : PlainPart)
     → is_mark_next sign (lexeme 0 0 (part_token x) ∷ []) ≡ false

@@ -1,5 +1,8 @@
 -- The tokens of what is left of a text.
-use Rattle.std.proofs.Common.{◌≡◌, ℕ, zero, suc, ◌+◌, ◌≤◌, Bool, true, false, List, [], ◌∷◌, ◌++◌, drop, length, slice_index, Option, Some, None, option_map, cond, if◌then◌else◌, nat_lt, ◌==◌, arith, refl, sym, ap, ◌∙◌, drop-drop, length-drop}
+use Rattle.std.proofs.Common.{◌≡◌, ℕ, zero, suc, ◌+◌, ◌≤◌, Bool, true, false, List, [], ◌∷◌, ◌++◌}
+use Rattle.std.proofs.Common.{drop, length, slice_index, Option, Some, None, option_map, cond}
+use Rattle.std.proofs.Common.{if◌then◌else◌, nat_lt, ◌==◌, arith, refl, sym, ap, ◌∙◌, drop-drop}
+use Rattle.std.proofs.Common.{length-drop}
 use Rattle.std.specs.List.{prefix_len}
 use Rattle.std.specs.Char.{is_ascii_alphabetic, is_ascii_digit}
 use Rattle.std.proofs.lemmas.Bool.{cond_both}
@@ -8,7 +11,9 @@ use Rattle.std.proofs.lemmas.Bool.Decides.{nat_tests}
 use Rattle.reg_base.specs.Codes.{is_code_byte}
 use Rattle.rule_text.specs.Marks.{double_mark, single_mark}
 use Rattle.rule_text.specs.Fronts.{first}
-use Rattle.rule_text.specs.Tokens.{is_blank, is_word_byte, lexeme, word_lexeme, number_lexeme, decimal_count, closed_code, quoted_lexeme, mark_lexeme, lexeme_of, pieces_from, tokens_of}
+use Rattle.rule_text.specs.Tokens.{is_blank, is_word_byte, lexeme, word_lexeme, number_lexeme}
+use Rattle.rule_text.specs.Tokens.{decimal_count, closed_code, quoted_lexeme, mark_lexeme}
+use Rattle.rule_text.specs.Tokens.{lexeme_of, pieces_from, tokens_of}
 use Rattle.rule_text.specs.declared.mark.Mark.{Mark}
 use Rattle.rule_text.specs.declared.token.Lexeme.{Lexeme}
 use Rattle.rule_text.specs.declared.token.Token.{Token}
@@ -61,8 +66,10 @@ pub lexeme_stands : (place : ℕ) (bytes : List ℕ) → Stands place (lexeme_of
 unfolding lexeme_of
 lexeme_stands place bytes =
     let first = slice_index bytes 0 in
-    cond_both (is_ascii_alphabetic first) _ _ (Stands place) (λ letter. word_stands place bytes letter)
-    (λ _. cond_both (is_ascii_digit first) _ _ (Stands place) (λ digit. number_stands place bytes digit)
+    cond_both (is_ascii_alphabetic first) _ _ (Stands place)
+    (λ letter. word_stands place bytes letter)
+    (λ _. cond_both (is_ascii_digit first) _ _ (Stands place) (λ digit. number_stands place bytes
+    digit)
     (λ _. cond_both (first == 34) _ _ (Stands place)
     (λ _. quoted_stands place bytes) (λ _. mark_stands place bytes)))
 
@@ -162,7 +169,8 @@ pub tokens_at-blank : (place b : ℕ) (bytes : List ℕ) → is_blank b ≡ true
 unfolding tokens_at
 tokens_at-blank place b bytes blank =
     blank_first (length bytes) place b bytes blank
-    ∙ within_enough (suc (length bytes)) (length bytes) (suc place) bytes (omega arith) (omega arith)
+    ∙ within_enough (suc (length bytes)) (length bytes) (suc place) bytes (omega arith)
+    (omega arith)
 
 token_first : (most place b : ℕ) (bytes : List ℕ) → is_blank b ≡ false
     → tokens_within (suc most) place (b ∷ bytes) ≡ lexeme_of place (b ∷ bytes)

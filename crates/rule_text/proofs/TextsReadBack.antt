@@ -1,13 +1,16 @@
 -- What is written of plain statements is read as the same statements.
-use Rattle.std.proofs.Common.{◌≡◌, ℕ, zero, suc, ◌+◌, ◌≤◌, true, List, [], ◌∷◌, ◌++◌, length, Some, None, Ok, arith, refl}
+use Rattle.std.proofs.Common.{◌≡◌, ℕ, zero, suc, ◌+◌, ◌≤◌, true, List, [], ◌∷◌, ◌++◌, length, Some}
+use Rattle.std.proofs.Common.{None, Ok, arith, refl}
 use Rattle.std.proofs.lemmas.Bool.{and_parts}
 use Rattle.std.specs.List.{list_all}
-use Rattle.rule_text.specs.Readers.{many, list_on, ends}
+use Rattle.rule_text.specs.Readers.{many, list_on}
 use Rattle.rule_text.specs.Sentences.{next_statement, statements, statements_of}
 use Rattle.rule_text.specs.declared.plain.PlainStatement.{PlainStatement}
-use Rattle.rule_text.proofs.PlainTexts.{statement_text, statements_text, placed, is_small, statement_fits}
+use Rattle.rule_text.proofs.PlainTexts.{statement_text, statements_text, placed, is_small}
+use Rattle.rule_text.proofs.PlainTexts.{statement_fits}
 use Rattle.rule_text.proofs.TextTokens.{tokens_at, tokens_within, tokens_at-text}
-use Rattle.rule_text.proofs.StatementsBack.{placed_at, reads_statement, takes_statement, statement_first}
+use Rattle.rule_text.proofs.StatementsBack.{placed_at, reads_statement, takes_statement}
+use Rattle.rule_text.proofs.StatementsBack.{statement_first}
 
 no_tokens : (place : ℕ) → tokens_at place [] ≡ []
 unfolding tokens_at tokens_within
@@ -53,7 +56,7 @@ count (x ∷ xs) fit place =
 -- the same statements are read, each at the place that it has in the text
 pub texts-read-back : (ps : List PlainStatement) → list_all (statement_fits is_small) ps ≡ true
     → statements_of (statements_text ps) ≡ Ok (placed 0 ps)
-unfolding statements_of statements list_on ends
+unfolding statements_of statements list_on
 texts-read-back ps fit =
     let enough = count ps fit 0 in
     let read = many_read ps fit (length (tokens_at 0 (statements_text ps))) 0 enough in

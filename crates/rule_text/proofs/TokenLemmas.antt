@@ -1,5 +1,7 @@
 -- One more token of a text.
-use Rattle.std.proofs.Common.{◌≡◌, ℕ, zero, suc, ◌+◌, ◌-◌, ◌<◌, ◌≤◌, Bool, true, false, List, [], ◌∷◌, ◌++◌, drop, length, Some, slice_index, append_assoc, append-nil, sym, cond, nat_lt, arith, lt-ltb, le-ltb}
+use Rattle.std.proofs.Common.{◌≡◌, ℕ, zero, suc, ◌+◌, ◌-◌, ◌<◌, ◌≤◌, Bool, true, false, List, []}
+use Rattle.std.proofs.Common.{◌∷◌, ◌++◌, drop, length, Some, slice_index, append_assoc, append-nil}
+use Rattle.std.proofs.Common.{sym, cond, nat_lt, arith, lt-ltb, le-ltb}
 use Rattle.std.specs.List.{prefix_len}
 use Rattle.std.proofs.lemmas.Bool.Decides.{nat_tests}
 use Rattle.rule_text.specs.Marks.{double_mark}

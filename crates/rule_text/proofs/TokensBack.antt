@@ -1,5 +1,6 @@
 -- Readers of one token read back what was written.
-use Rattle.std.proofs.Common.{◌≡◌, ℕ, ◌+◌, ◌≤◌, true, false, List, [], ◌∷◌, ◌++◌, length, slice_index, nat_le, Option, Some, None, Ok, arith, refl, ◌∙◌}
+use Rattle.std.proofs.Common.{◌≡◌, ℕ, ◌+◌, ◌≤◌, true, false, List, [], ◌∷◌, ◌++◌, length}
+use Rattle.std.proofs.Common.{slice_index, nat_le, Option, Some, None, Ok, arith, refl, ◌∙◌}
 use Rattle.std.specs.Str.{bytes_eq}
 use Rattle.std.proofs.lemmas.Bool.Decides.{nat_tests}
 use Rattle.std.proofs.lemmas.Slice.Eq.{bytes_eq-Decides}
@@ -7,7 +8,8 @@ use Rattle.reg_base.specs.Codes.{is_code, is_name}
 use Rattle.reg_base.specs.Numbers.{largest_units}
 use Rattle.rule_text.specs.Marks.{mark_text}
 use Rattle.rule_text.specs.Readers.{Reader, takes, pick, mark, word, name, code_if, quoted}
-use Rattle.rule_text.specs.Fronts.{sign_of, word_of, number_of, code_of, break_of, is_mark_next, is_word_next}
+use Rattle.rule_text.specs.Fronts.{token_mark, token_word, token_number, token_code, token_break}
+use Rattle.rule_text.specs.Fronts.{is_mark_next, is_word_next}
 use Rattle.rule_text.specs.Tokens.{is_word_byte, lexeme}
 use Rattle.rule_text.specs.declared.mark.Mark.{Mark}
 use Rattle.rule_text.specs.declared.token.Lexeme.{Lexeme}
@@ -18,8 +20,10 @@ use Rattle.rule_text.specs.declared.token.Token.{Token}
 use Rattle.rule_text.specs.declared.token.Token.TheVariants.{Word, Number, Quoted, Sign}
 use Rattle.rule_text.proofs.PlainTexts.{spelling_text, literal_text, is_named, is_small}
 use Rattle.rule_text.proofs.TextTokens.{tokens_at}
-use Rattle.rule_text.proofs.LexemeLemmas.{EndsMark, EndsPart, quoted_text, tokens_at-word, tokens_at-mark, tokens_at-code, tokens_at-number}
-use Rattle.rule_text.proofs.ReadBack.{ReadsBack, TakesToken, Anything, then_gives, reads_nothing, Begins, front-begins, Starts, NotNext, NoneNext}
+use Rattle.rule_text.proofs.LexemeLemmas.{EndsMark, EndsPart, quoted_text, tokens_at-word}
+use Rattle.rule_text.proofs.LexemeLemmas.{tokens_at-mark, tokens_at-code, tokens_at-number}
+use Rattle.rule_text.proofs.ReadBack.{ReadsBack, TakesToken, Anything, then_gives, reads_nothing}
+use Rattle.rule_text.proofs.ReadBack.{Begins, front-begins, Starts, NotNext, NoneNext}
 
 -- no byte of a word follows
 abbrev pub EndsWord : List ℕ → Type 0
@@ -124,14 +128,15 @@ unfolding quoted
 reads_quoted code coded = then_gives _ (reads_code_if code coded) (λ tokens. refl)
 
 pub picks_number : (literal : Literal) → is_small literal ≡ true
-    → ReadsBack EndsPart (pick number_of) (literal_text literal) (Some literal)
+    → ReadsBack EndsPart (pick token_number) (literal_text literal) (Some literal)
 picks_number literal small =
-    reads_token (is_number literal small) (pick number_of) (Some literal) (λ place len tokens. refl)
+    reads_token (is_number literal small) (pick token_number) (Some literal)
+    (λ place len tokens. refl)
 
 -- neither a code nor a quote that breaks off comes next
 pub record NoCode (rest : List ℕ) : Type 0 where
-  pub no_code : NoneNext code_of rest
-  pub no_break : NoneNext break_of rest
+  pub no_code : NoneNext token_code rest
+  pub no_break : NoneNext token_break rest
 
 -- no code is read where none comes next
 pub no_code_if : ReadsBack NoCode code_if [] None
@@ -142,21 +147,21 @@ no_code_if = reads_nothing code_if None
 -- what comes next is known by the first token
 pub not_word : {token : Token} {rest : List ℕ} → Begins token rest → (text : List ℕ)
     → is_word_next text (lexeme 0 0 token ∷ []) ≡ false → NotNext (is_word_next text) rest
-not_word begins text other place = rw (front-begins begins word_of place) other
+not_word begins text other place = rw (front-begins begins token_word place) other
 
 pub not_mark : {token : Token} {rest : List ℕ} → Begins token rest → (sign : Mark)
     → is_mark_next sign (lexeme 0 0 token ∷ []) ≡ false → NotNext (is_mark_next sign) rest
-not_mark begins sign other place = rw (front-begins begins sign_of place) other
+not_mark begins sign other place = rw (front-begins begins token_mark place) other
 
 pub none_next : {X : Type 0} {token : Token} {rest : List ℕ} → Begins token rest
     → (gives : Token → Option X) → gives token ≡ None → NoneNext gives rest
 none_next begins gives none place = front-begins begins gives place ∙ none
 
-pub no_code_next : {token : Token} {rest : List ℕ} → Begins token rest → code_of token ≡ None
-    → break_of token ≡ None → NoCode rest
+pub no_code_next : {token : Token} {rest : List ℕ} → Begins token rest → token_code token ≡ None
+    → token_break token ≡ None → NoCode rest
 no_code_next begins code break = record {
-  no_code = none_next begins code_of code;
-  no_break = none_next begins break_of break;
+  no_code = none_next begins token_code code;
+  no_break = none_next begins token_break break;
 }
 
 -- what a token and a name start with

@@ -2,13 +2,18 @@
 use Rattle.std.proofs.Common.{◌≡◌, [], ◌∷◌, codes, None, Ok, Err, refl}
 use Rattle.reg_base.specs.Codes.{is_name, is_code}
 use Rattle.rule_text.specs.Marks.{mark_text, single_mark, double_mark}
-use Rattle.rule_text.specs.Tokens.{word_lexeme, decimal_count, number_lexeme, closed_code, quoted_lexeme, mark_lexeme, lexeme_of, pieces_from, tokens_of}
-use Rattle.rule_text.specs.Readers.{mark, word, name, code_if, quoted, ends, many, list_on, list_of}
+use Rattle.rule_text.specs.Tokens.{word_lexeme, decimal_count, number_lexeme, closed_code}
+use Rattle.rule_text.specs.Tokens.{quoted_lexeme, mark_lexeme, lexeme_of, pieces_from, tokens_of}
+use Rattle.rule_text.specs.Readers.{mark, word, name, code_if, quoted, many, list_on, list_reader}
 use Rattle.rule_text.specs.Plain.{lone_field, equality_of}
-use Rattle.rule_text.specs.Sums.{field, owner, field_code, code, field_part, part, term, joint, next_term, sum}
-use Rattle.rule_text.specs.Binds.{bind_to, bind, next_bind, binds, target, amount, next_amount, amounts}
-use Rattle.rule_text.specs.Acts.{make, write_off, require, control, next_code, extra_codes, account_side, side, sides, entry, opening_of, act_of, verb, act}
-use Rattle.rule_text.specs.Conditions.{test_of, comparison, equality, text_cond, sums_cond, field_cond, sum_cond, cond, when}
+use Rattle.rule_text.specs.Sums.{field, owner, field_code, code, field_part, part, term, joint}
+use Rattle.rule_text.specs.Sums.{next_term, sum}
+use Rattle.rule_text.specs.Binds.{bind_to, bind, next_bind, binds, target, amount, next_amount}
+use Rattle.rule_text.specs.Binds.{amounts}
+use Rattle.rule_text.specs.Acts.{make, write_off, require, control, next_code, extra_codes}
+use Rattle.rule_text.specs.Acts.{account_side, side, sides, entry, opening_of, act_of, verb, act}
+use Rattle.rule_text.specs.Conditions.{test_of, comparison, equality, text_cond, sums_cond}
+use Rattle.rule_text.specs.Conditions.{field_cond, sum_cond, cond, when}
 use Rattle.rule_text.specs.Sentences.{scope, statement, next_statement, statements, statements_of}
 use Rattle.rule_text.specs.declared.fault.TextFault.TheVariants.{Syntax}
 use Rattle.rule_text.specs.declared.token.Spelling.TheVariants.{Named}
@@ -18,7 +23,7 @@ use Rattle.rule_text.specs.declared.plain.PlainAct.TheVariants.{Control}
 nothing : statements_of (codes "") ≡ Ok []
 unfolding mark_text single_mark double_mark word_lexeme decimal_count number_lexeme closed_code
     quoted_lexeme mark_lexeme lexeme_of pieces_from tokens_of mark word name code_if quoted
-    ends many list_on list_of lone_field equality_of field owner field_code code field_part
+    many list_on list_reader lone_field equality_of field owner field_code code field_part
     part term joint next_term sum bind_to bind next_bind binds target amount next_amount
     amounts make write_off require control next_code extra_codes account_side side sides entry
     opening_of act_of verb act test_of comparison equality text_cond sums_cond field_cond sum_cond
@@ -34,7 +39,7 @@ control_said : statements_of (codes " control goods quantity;") ≡ Ok (record {
 } ∷ [])
 unfolding mark_text single_mark double_mark word_lexeme decimal_count number_lexeme closed_code
     quoted_lexeme mark_lexeme lexeme_of pieces_from tokens_of mark word name code_if quoted
-    ends many list_on list_of lone_field equality_of field owner field_code code field_part
+    many list_on list_reader lone_field equality_of field owner field_code code field_part
     part term joint next_term sum bind_to bind next_bind binds target amount next_amount
     amounts make write_off require control next_code extra_codes account_side side sides entry
     opening_of act_of verb act test_of comparison equality text_cond sums_cond field_cond sum_cond
@@ -45,7 +50,7 @@ control_said = refl
 number_for_code : statements_of (codes "each line receipt goods(quantity = 1);") ≡ Err (Syntax 35)
 unfolding mark_text single_mark double_mark word_lexeme decimal_count number_lexeme closed_code
     quoted_lexeme mark_lexeme lexeme_of pieces_from tokens_of mark word name code_if quoted
-    ends many list_on list_of lone_field equality_of field owner field_code code field_part
+    many list_on list_reader lone_field equality_of field owner field_code code field_part
     part term joint next_term sum bind_to bind next_bind binds target amount next_amount
     amounts make write_off require control next_code extra_codes account_side side sides entry
     opening_of act_of verb act test_of comparison equality text_cond sums_cond field_cond sum_cond
@@ -56,7 +61,7 @@ number_for_code = refl
 ends_early : statements_of (codes "control goods quantity") ≡ Err (Syntax 22)
 unfolding mark_text single_mark double_mark word_lexeme decimal_count number_lexeme closed_code
     quoted_lexeme mark_lexeme lexeme_of pieces_from tokens_of mark word name code_if quoted
-    ends many list_on list_of lone_field equality_of field owner field_code code field_part
+    many list_on list_reader lone_field equality_of field owner field_code code field_part
     part term joint next_term sum bind_to bind next_bind binds target amount next_amount
     amounts make write_off require control next_code extra_codes account_side side sides entry
     opening_of act_of verb act test_of comparison equality text_cond sums_cond field_cond sum_cond
@@ -67,7 +72,7 @@ ends_early = refl
 broken_code : statements_of (codes "receipt r(a = \"x y\";") ≡ Err (Syntax 16)
 unfolding mark_text single_mark double_mark word_lexeme decimal_count number_lexeme closed_code
     quoted_lexeme mark_lexeme lexeme_of pieces_from tokens_of mark word name code_if quoted
-    ends many list_on list_of lone_field equality_of field owner field_code code field_part
+    many list_on list_reader lone_field equality_of field owner field_code code field_part
     part term joint next_term sum bind_to bind next_bind binds target amount next_amount
     amounts make write_off require control next_code extra_codes account_side side sides entry
     opening_of act_of verb act test_of comparison equality text_cond sums_cond field_cond sum_cond
@@ -77,7 +82,7 @@ broken_code = refl
 broken_name : statements_of (codes "receipt \"x y\"(") ≡ Err (Syntax 8)
 unfolding mark_text single_mark double_mark word_lexeme decimal_count number_lexeme closed_code
     quoted_lexeme mark_lexeme lexeme_of pieces_from tokens_of mark word name code_if quoted
-    ends many list_on list_of lone_field equality_of field owner field_code code field_part
+    many list_on list_reader lone_field equality_of field owner field_code code field_part
     part term joint next_term sum bind_to bind next_bind binds target amount next_amount
     amounts make write_off require control next_code extra_codes account_side side sides entry
     opening_of act_of verb act test_of comparison equality text_cond sums_cond field_cond sum_cond

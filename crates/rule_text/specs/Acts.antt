@@ -1,15 +1,19 @@
 -- How the acts of statements are written.
-use Rattle.std.specs.Prelude.{codes, Bool, true, false, List, [], Option, Some, None, option_and_then, drop, if◌then◌else◌}
-use Rattle.rule_text.specs.Readers.{Reader, ◌>>=◌, give, stuck, takes, mark, word, name, quoted, list_of}
-use Rattle.rule_text.specs.Fronts.{front, is_mark_next, is_word_next, is_spelt, word_of}
+use Rattle.std.specs.Prelude.{codes, not, Bool, true, false, List, [], Option, Some, None}
+use Rattle.std.specs.Prelude.{option_and_then, if◌then◌else◌}
+use Rattle.rule_text.specs.Readers.{Reader, ◌>>=◌, give, takes, take_front, mark, word, name}
+use Rattle.rule_text.specs.Readers.{quoted, list_reader}
+use Rattle.rule_text.specs.Fronts.{front, is_mark_next, is_word_next, is_spelt, token_word}
 use Rattle.rule_text.specs.Sums.{code, sum}
 use Rattle.rule_text.specs.declared.mark.Mark.TheVariants.{Open, Close, Semicolon, Comma, AtLeast}
 use Rattle.rule_text.specs.declared.token.Lexeme.{Lexeme}
 use Rattle.rule_text.specs.declared.token.Spelling.{Spelling}
 use Rattle.rule_text.specs.declared.acts.Opening.{Opening}
-use Rattle.rule_text.specs.declared.acts.Opening.TheVariants.{Makes, WritesOff, Requires, Controls, Enters}
+use Rattle.rule_text.specs.declared.acts.Opening.TheVariants.{Makes, WritesOff, Requires, Controls}
+use Rattle.rule_text.specs.declared.acts.Opening.TheVariants.{Enters}
 use Rattle.rule_text.specs.declared.plain.PlainAct.{PlainAct}
-use Rattle.rule_text.specs.declared.plain.PlainAct.TheVariants.{Make, WriteOff, Require, Control, Entry}
+use Rattle.rule_text.specs.declared.plain.PlainAct.TheVariants.{Make, WriteOff, Require, Control}
+use Rattle.rule_text.specs.declared.plain.PlainAct.TheVariants.{Entry}
 use Rattle.rule_text.specs.declared.plain.PlainCode.{PlainCode}
 use Rattle.rule_text.specs.declared.plain.PlainSide.{PlainSide}
 use Rattle.rule_text.specs.declared.plain.PlainSides.{PlainSides}
@@ -58,13 +62,14 @@ control = do
 unfoldable pub next_code : Reader (Option PlainCode)
 next_code = after_comma code
 
+-- none where there are none, or one and more behind commas
+abbrev pub codes_if : Bool → Reader (List PlainCode)
+codes_if false = give []
+codes_if true = list_reader code next_code
+
 -- none before `)`, or one and more behind commas
 unfoldable pub extra_codes : Reader (List PlainCode)
-extra_codes = λ tokens. unless_closed (is_mark_next Close tokens) tokens
-  where
-    unless_closed : Bool → Reader (List PlainCode)
-    unless_closed true = give []
-    unless_closed false = list_of code next_code
+extra_codes = λ tokens. codes_if (not (is_mark_next Close tokens)) tokens
 
 -- an account, then its extras between `(` and `)`
 unfoldable pub account_side : Reader (Option PlainSide)
@@ -121,7 +126,7 @@ opening_of spelling =
 
 -- what the verb in front opens
 abbrev pub front_opening : List Lexeme → Option Opening
-front_opening tokens = option_and_then opening_of (front word_of tokens)
+front_opening tokens = option_and_then opening_of (front token_word tokens)
 
 -- what stands behind the verb
 unfoldable pub act_of : Opening → Reader PlainAct
@@ -133,11 +138,7 @@ act_of Enters = entry
 
 -- the verb
 unfoldable pub verb : Reader Opening
-verb = λ tokens. verb_by (front_opening tokens) tokens
-  where
-    verb_by : Option Opening → Reader Opening
-    verb_by (Some opening) tokens = give opening (drop 1 tokens)
-    verb_by None tokens = stuck tokens
+verb = λ tokens. take_front (front_opening tokens) tokens
 
 -- a verb and what stands behind it
 unfoldable pub act : Reader PlainAct

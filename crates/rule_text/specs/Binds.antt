@@ -1,6 +1,6 @@
 -- How dimensions and resources are written with what is given them.
-use Rattle.std.specs.Prelude.{codes, Bool, true, false, List, [], Option, Some, None}
-use Rattle.rule_text.specs.Readers.{Reader, ◌>>=◌, give, takes, mark, name, list_of}
+use Rattle.std.specs.Prelude.{codes, not, Bool, true, false, List, [], Option, Some, None}
+use Rattle.rule_text.specs.Readers.{Reader, ◌>>=◌, give, takes, mark, name, list_reader}
 use Rattle.rule_text.specs.Fronts.{is_mark_next, is_word_next}
 use Rattle.rule_text.specs.Sums.{code, sum}
 use Rattle.rule_text.specs.declared.mark.Mark.TheVariants.{Open, Semicolon, Comma, Equal}
@@ -44,13 +44,14 @@ after_comma read = do
 unfoldable pub next_bind : Reader (Option PlainBind)
 next_bind = after_comma bind
 
+-- none where there are none, or one and more behind commas
+abbrev pub binds_if : Bool → Reader (List PlainBind)
+binds_if false = give []
+binds_if true = list_reader bind next_bind
+
 -- none before a semicolon, or one and more behind commas
 unfoldable pub binds : Reader (List PlainBind)
-binds = λ tokens. unless_ended (is_mark_next Semicolon tokens) tokens
-  where
-    unless_ended : Bool → Reader (List PlainBind)
-    unless_ended true = give []
-    unless_ended false = list_of bind next_bind
+binds = λ tokens. binds_if (not (is_mark_next Semicolon tokens)) tokens
 
 -- a register, then `(`, its binds and `;`
 unfoldable pub target : Reader Target
@@ -75,4 +76,4 @@ next_amount = after_comma amount
 
 -- one amount, and more behind commas
 unfoldable pub amounts : Reader (List PlainAmount)
-amounts = list_of amount next_amount
+amounts = list_reader amount next_amount

@@ -1,11 +1,17 @@
 -- How conditions are written.
-use Rattle.std.specs.Prelude.{ℕ, codes, Bool, true, false, List, Option, Some, None, option_and_then, Ok, drop}
+use Rattle.std.specs.Prelude.{ℕ, codes, Bool, true, false, List, Option, Some, None}
+use Rattle.std.specs.Prelude.{option_and_then}
 use Rattle.rule_text.specs.Plain.{lone_field, equality_of}
-use Rattle.rule_text.specs.Readers.{Reader, ◌>>=◌, give, stuck, takes, code_if}
-use Rattle.rule_text.specs.Fronts.{front, is_word_next, sign_of}
+use Rattle.rule_text.specs.Readers.{Reader, ◌>>=◌, give, takes, take_front, code_if}
+use Rattle.rule_text.specs.Fronts.{front, is_word_next, token_mark}
 use Rattle.rule_text.specs.Sums.{code, sum}
 use Rattle.rule_text.specs.declared.mark.Mark.{Mark}
-use Rattle.rule_text.specs.declared.mark.Mark.TheVariants.{Open, Close, Semicolon, Comma, Point, Plus, Minus, Equal as EqualMark, Less as LessMark, AtMost as AtMostMark, AtLeast as AtLeastMark, Greater as GreaterMark, Differs as DiffersMark}
+use Rattle.rule_text.specs.declared.mark.Mark.TheVariants.{Open, Close, Semicolon, Comma, Point}
+use Rattle.rule_text.specs.declared.mark.Mark.TheVariants.{Plus, Minus, Equal as EqualMark}
+use Rattle.rule_text.specs.declared.mark.Mark.TheVariants.{Less as LessMark, AtMost as AtMostMark}
+use Rattle.rule_text.specs.declared.mark.Mark.TheVariants.{AtLeast as AtLeastMark}
+use Rattle.rule_text.specs.declared.mark.Mark.TheVariants.{Greater as GreaterMark}
+use Rattle.rule_text.specs.declared.mark.Mark.TheVariants.{Differs as DiffersMark}
 use Rattle.rule_text.specs.declared.token.Lexeme.{Lexeme}
 use Rattle.rule_text.specs.declared.plain.PlainCode.{PlainCode}
 use Rattle.rule_text.specs.declared.plain.PlainCode.TheVariants.{Text}
@@ -13,7 +19,8 @@ use Rattle.rule_text.specs.declared.plain.PlainCond.{PlainCond}
 use Rattle.rule_text.specs.declared.plain.PlainCond.TheVariants.{Sums, Codes}
 use Rattle.rule_text.specs.declared.plain.PlainTerm.{PlainTerm}
 use Rattle.rule_text.specs.declared.plain.Test.{Test}
-use Rattle.rule_text.specs.declared.plain.Test.TheVariants.{Less, AtMost, Equal, AtLeast, Greater, Differs}
+use Rattle.rule_text.specs.declared.plain.Test.TheVariants.{Less, AtMost, Equal, AtLeast, Greater}
+use Rattle.rule_text.specs.declared.plain.Test.TheVariants.{Differs}
 
 -- the test that a mark asks for
 unfoldable pub test_of : Mark → Option Test
@@ -33,20 +40,15 @@ test_of Minus = None
 
 -- the test that the mark in front asks for
 abbrev pub front_test : List Lexeme → Option Test
-front_test tokens = option_and_then test_of (front sign_of tokens)
-
--- the first token, where it asks for a test
-abbrev pub taken : {X : Type 0} → Option X → Reader X
-taken (Some x) tokens = Ok (x, drop 1 tokens)
-taken None tokens = stuck tokens
+front_test tokens = option_and_then test_of (front token_mark tokens)
 
 -- a mark between sums
 unfoldable pub comparison : Reader Test
-comparison = λ tokens. taken (front_test tokens) tokens
+comparison = λ tokens. take_front (front_test tokens) tokens
 
 -- a mark between codes, `=` or `<>`: whether they have to be equal
 unfoldable pub equality : Reader Bool
-equality = λ tokens. taken (option_and_then equality_of (front_test tokens)) tokens
+equality = λ tokens. take_front (option_and_then equality_of (front_test tokens)) tokens
 
 -- a text is compared with a code
 unfoldable pub text_cond : List ℕ → Reader PlainCond
@@ -72,17 +74,18 @@ field_cond field equal left test = do
     text_or_sum None field equal left test = sums_cond left test
 
 -- a field alone, with a test for equality, may be compared with a text
-abbrev pub compared : Option PlainCode → Option Bool → List PlainTerm → Test → Reader PlainCond
-compared (Some field) (Some equal) left test = field_cond field equal left test
-compared (Some field) None left test = sums_cond left test
-compared None equal left test = sums_cond left test
+abbrev pub code_or_sum_cond : Option PlainCode → Option Bool → List PlainTerm → Test
+    → Reader PlainCond
+code_or_sum_cond (Some field) (Some equal) left test = field_cond field equal left test
+code_or_sum_cond (Some field) None left test = sums_cond left test
+code_or_sum_cond None equal left test = sums_cond left test
 
 -- a condition that begins with a sum
 unfoldable pub sum_cond : Reader PlainCond
 sum_cond = do
   left ← sum
   by ← comparison
-  compared (lone_field left) (equality_of by) left by
+  code_or_sum_cond (lone_field left) (equality_of by) left by
 
 -- a condition: a text with a code, or a sum with what it can be compared with
 unfoldable pub cond : Reader PlainCond

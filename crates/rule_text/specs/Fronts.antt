@@ -20,48 +20,48 @@ abbrev pub front : {X : Type 0} → (Token → Option X) → List Lexeme → Opt
 front gives tokens = option_and_then (λ lexeme. gives lexeme.token) (first tokens)
 
 -- the mark that a token is
-abbrev pub sign_of : Token → Option Mark
-sign_of (Sign mark) = Some mark
-sign_of (Word word) = None
-sign_of (Number literal) = None
-sign_of (Quoted code) = None
-sign_of (Broken at) = None
+abbrev pub token_mark : Token → Option Mark
+token_mark (Sign mark) = Some mark
+token_mark (Word word) = None
+token_mark (Number literal) = None
+token_mark (Quoted code) = None
+token_mark (Broken at) = None
 
 -- the word that a token is
-abbrev pub word_of : Token → Option Spelling
-word_of (Word word) = Some word
-word_of (Sign mark) = None
-word_of (Number literal) = None
-word_of (Quoted code) = None
-word_of (Broken at) = None
+abbrev pub token_word : Token → Option Spelling
+token_word (Word word) = Some word
+token_word (Sign mark) = None
+token_word (Number literal) = None
+token_word (Quoted code) = None
+token_word (Broken at) = None
 
 -- the number that a token is
-abbrev pub number_of : Token → Option Literal
-number_of (Number literal) = Some literal
-number_of (Word word) = None
-number_of (Sign mark) = None
-number_of (Quoted code) = None
-number_of (Broken at) = None
+abbrev pub token_number : Token → Option Literal
+token_number (Number literal) = Some literal
+token_number (Word word) = None
+token_number (Sign mark) = None
+token_number (Quoted code) = None
+token_number (Broken at) = None
 
 -- the code that a token is
-abbrev pub code_of : Token → Option (List ℕ)
-code_of (Quoted code) = Some code
-code_of (Word word) = None
-code_of (Number literal) = None
-code_of (Sign mark) = None
-code_of (Broken at) = None
+abbrev pub token_code : Token → Option (List ℕ)
+token_code (Quoted code) = Some code
+token_code (Word word) = None
+token_code (Number literal) = None
+token_code (Sign mark) = None
+token_code (Broken at) = None
 
 -- the byte at which no token can go on
-abbrev pub break_of : Token → Option ℕ
-break_of (Broken at) = Some at
-break_of (Word word) = None
-break_of (Number literal) = None
-break_of (Quoted code) = None
-break_of (Sign mark) = None
+abbrev pub token_break : Token → Option ℕ
+token_break (Broken at) = Some at
+token_break (Word word) = None
+token_break (Number literal) = None
+token_break (Quoted code) = None
+token_break (Sign mark) = None
 
 -- whether the first token is this mark
 abbrev pub is_mark_next : Mark → List Lexeme → Bool
-is_mark_next mark tokens = is_mark (front sign_of tokens)
+is_mark_next mark tokens = is_mark (front token_mark tokens)
   where
     is_mark : Option Mark → Bool
     is_mark None = false
@@ -74,7 +74,7 @@ is_spelt text (Named name) = bytes_eq name text
 
 -- whether the first token is this word
 abbrev pub is_word_next : List ℕ → List Lexeme → Bool
-is_word_next text tokens = is_word (front word_of tokens)
+is_word_next text tokens = is_word (front token_word tokens)
   where
     is_word : Option Spelling → Bool
     is_word None = false

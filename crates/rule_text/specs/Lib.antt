@@ -8,3 +8,4 @@ pub mod Binds
 pub mod Acts
 pub mod Conditions
 pub mod Sentences
+pub mod Refusals

@@ -1,7 +1,9 @@
 -- The texts of marks, and the marks that bytes spell.
 use Rattle.std.specs.Prelude.{ℕ, codes, ◌==◌, ◌&&◌, if◌then◌else◌, List, Option, Some, None}
 use Rattle.rule_text.specs.declared.mark.Mark.{Mark}
-use Rattle.rule_text.specs.declared.mark.Mark.TheVariants.{Open, Close, Semicolon, Comma, Equal, Point, Plus, Minus, Less, AtMost, AtLeast, Greater, Differs}
+use Rattle.rule_text.specs.declared.mark.Mark.TheVariants.{Open, Close, Semicolon, Comma, Equal}
+use Rattle.rule_text.specs.declared.mark.Mark.TheVariants.{Point, Plus, Minus, Less, AtMost}
+use Rattle.rule_text.specs.declared.mark.Mark.TheVariants.{AtLeast, Greater, Differs}
 
 -- how a mark is spelt
 unfoldable pub mark_text : Mark → List ℕ

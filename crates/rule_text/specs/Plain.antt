@@ -6,7 +6,8 @@ use Rattle.rule_text.specs.declared.plain.PlainPart.{PlainPart}
 use Rattle.rule_text.specs.declared.plain.PlainPart.TheVariants.{Number, Head, Line, Total, Cost}
 use Rattle.rule_text.specs.declared.plain.PlainTerm.{PlainTerm}
 use Rattle.rule_text.specs.declared.plain.Test.{Test}
-use Rattle.rule_text.specs.declared.plain.Test.TheVariants.{Less, AtMost, Equal, AtLeast, Greater, Differs}
+use Rattle.rule_text.specs.declared.plain.Test.TheVariants.{Less, AtMost, Equal, AtLeast, Greater}
+use Rattle.rule_text.specs.declared.plain.Test.TheVariants.{Differs}
 
 -- the field of head or line that a part is, which may be a code's
 abbrev pub code_of_part : PlainPart → Option PlainCode

@@ -1,6 +1,7 @@
 -- How whole statements are written, and what a text of statements says.
-use Rattle.std.specs.Prelude.{ℕ, codes, Bool, true, false, List, [], length, Option, Some, None, option_map, Result, Ok, Err}
-use Rattle.rule_text.specs.Readers.{Read, Reader, ◌>>=◌, give, takes, mark, word, ends, list_on}
+use Rattle.std.specs.Prelude.{ℕ, codes, Bool, true, false, List, [], length, Option, Some, None}
+use Rattle.std.specs.Prelude.{option_map, Result, Ok, Err}
+use Rattle.rule_text.specs.Readers.{Read, Reader, ◌>>=◌, give, takes, mark, word, list_on}
 use Rattle.rule_text.specs.Fronts.{first, is_word_next}
 use Rattle.rule_text.specs.Acts.{act}
 use Rattle.rule_text.specs.Tokens.{tokens_of}
@@ -40,22 +41,20 @@ statement place = do
   _ ← mark Semicolon
   give (record { place = place; scope = scope; act = act; when = when })
 
+-- the statement whose first byte stands at the place, where the text goes on
+abbrev pub statement_if : Option ℕ → Reader (Option PlainStatement)
+statement_if None = give None
+statement_if (Some place) = do
+  statement ← statement place
+  give (Some statement)
+
 -- one more statement, where the text goes on
 unfoldable pub next_statement : Reader (Option PlainStatement)
-next_statement = λ tokens. at_first (option_map (λ lexeme. lexeme.place) (first tokens)) tokens
-  where
-    at_first : Option ℕ → Reader (Option PlainStatement)
-    at_first None = give None
-    at_first (Some place) = do
-      statement ← statement place
-      give (Some statement)
+next_statement = λ tokens. statement_if (option_map (λ lexeme. lexeme.place) (first tokens)) tokens
 
--- statements to the end of the text
+-- one statement after another to the end of the text
 unfoldable pub statements : Reader (List PlainStatement)
-statements = do
-  all ← list_on [] next_statement
-  _ ← ends
-  give all
+statements = list_on [] next_statement
 
 -- the statements that a text says; else the place of the first token or byte that can't follow,
 -- which is the length of the text where it ends too early

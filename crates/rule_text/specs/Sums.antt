@@ -1,14 +1,17 @@
 -- How codes, terms and sums are written.
 use Rattle.std.specs.Prelude.{ℕ, codes, Bool, true, false, List, Option, Some, None}
-use Rattle.rule_text.specs.Readers.{Reader, ◌>>=◌, give, stuck, takes, pick, mark, name, code_if, list_of}
-use Rattle.rule_text.specs.Fronts.{is_mark_next, is_word_next, number_of}
-use Rattle.rule_text.specs.declared.mark.Mark.TheVariants.{Point as PointMark, Plus as PlusMark, Minus as MinusMark}
+use Rattle.rule_text.specs.Readers.{Reader, ◌>>=◌, give, stuck, takes, pick, mark, name, code_if}
+use Rattle.rule_text.specs.Readers.{list_reader}
+use Rattle.rule_text.specs.Fronts.{is_mark_next, is_word_next, token_number}
+use Rattle.rule_text.specs.declared.mark.Mark.TheVariants.{Point as PointMark, Plus as PlusMark}
+use Rattle.rule_text.specs.declared.mark.Mark.TheVariants.{Minus as MinusMark}
 use Rattle.rule_text.specs.declared.token.Literal.{Literal}
 use Rattle.rule_text.specs.declared.token.Spelling.{Spelling}
 use Rattle.rule_text.specs.declared.sums.Owner.{Owner}
 use Rattle.rule_text.specs.declared.sums.Owner.TheVariants.{OfHead, OfLine}
 use Rattle.rule_text.specs.declared.plain.PlainCode.{PlainCode}
-use Rattle.rule_text.specs.declared.plain.PlainCode.TheVariants.{Text, Head as HeadCode, Line as LineCode}
+use Rattle.rule_text.specs.declared.plain.PlainCode.TheVariants.{Text, Head as HeadCode}
+use Rattle.rule_text.specs.declared.plain.PlainCode.TheVariants.{Line as LineCode}
 use Rattle.rule_text.specs.declared.plain.PlainPart.{PlainPart}
 use Rattle.rule_text.specs.declared.plain.PlainPart.TheVariants.{Number, Head, Line, Total, Cost}
 use Rattle.rule_text.specs.declared.plain.PlainTerm.{PlainTerm}
@@ -80,7 +83,7 @@ field_part = do
 -- a part: a number, `cost`, or a field
 unfoldable pub part : Reader PlainPart
 part = do
-  number ← pick number_of
+  number ← pick token_number
   number_or number
   where
     cost_or : Bool → Reader PlainPart
@@ -130,4 +133,4 @@ next_term = do
 
 -- a sum: a term, and more with a plus or a minus before each
 unfoldable pub sum : Reader (List PlainTerm)
-sum = list_of (term false) next_term
+sum = list_reader (term false) next_term

@@ -1,5 +1,6 @@
 -- The tokens of a text, each with the place of its first byte, counted from 0.
-use Rattle.std.specs.Prelude.{ℕ, zero, suc, ◌+◌, ◌==◌, ◌&&◌, ◌||◌, nat_lt, min, Bool, List, [], ◌∷◌, length, drop, take, slice_index, Option, Some, None, if◌then◌else◌}
+use Rattle.std.specs.Prelude.{ℕ, zero, suc, ◌+◌, ◌==◌, ◌&&◌, ◌||◌, nat_lt, min, Bool, List, [], ◌∷◌}
+use Rattle.std.specs.Prelude.{length, drop, take, slice_index, Option, Some, None, if◌then◌else◌}
 use Rattle.std.specs.List.{prefix_len}
 use Rattle.std.specs.Char.{is_ascii_alphabetic, is_ascii_alphanumeric, is_ascii_digit}
 use Rattle.reg_base.specs.Codes.{is_code, is_code_byte, is_name}

@@ -1,11 +1,20 @@
 //! The acts of statements as they are written.
 ghost use Rattle.std.specs.Prelude.{◌≡◌};
-ghost use Rattle.rule_text.specs.Readers.{Reads, rest};
-ghost use Rattle.rule_text.specs.Sums.{code as code_of};
-ghost use Rattle.rule_text.specs.Binds.{bind_to as bind_to_of, bind as bind_of, next_bind, binds as binds_of, target as target_of, amount as amount_of, next_amount, amounts as amounts_of};
-ghost use Rattle.rule_text.specs.Acts.{make as make_of, write_off as write_off_of, require as require_of, control as control_of, next_code, extra_codes as extra_codes_of, account_side as account_side_of, side as side_of, sides as sides_of, entry as entry_of, opening_of as opening_of_word, front_opening as front_opening_of, act_of, verb as verb_of, act as any_act};
+ghost use Rattle.rule_text.specs.Readers.{ReadsTokens, rest};
+ghost use Rattle.rule_text.specs.Sums.{code as code_read};
+ghost use Rattle.rule_text.specs.Binds.{bind_to as bind_to_of, bind as bind_of, next_bind};
+ghost use Rattle.rule_text.specs.Binds.{binds as binds_of, target as target_of};
+ghost use Rattle.rule_text.specs.Binds.{amount as amount_of, next_amount, amounts as amounts_of};
+ghost use Rattle.rule_text.specs.Acts.{make as make_of, write_off as write_off_of};
+ghost use Rattle.rule_text.specs.Acts.{require as require_of, control as control_of, next_code};
+ghost use Rattle.rule_text.specs.Acts.{extra_codes as extra_codes_of};
+ghost use Rattle.rule_text.specs.Acts.{account_side as account_side_of, side as side_of};
+ghost use Rattle.rule_text.specs.Acts.{sides as sides_of, entry as entry_of};
+ghost use Rattle.rule_text.specs.Acts.{opening_of as opening_of_word};
+ghost use Rattle.rule_text.specs.Acts.{front_opening as front_opening_of, act_of, verb as verb_of};
+ghost use Rattle.rule_text.specs.Acts.{act as any_act};
 
-use crate::cursor::{Cursor, Follows, Listed, list_of};
+use crate::cursor::{Cursor, Follows, Listed, list_reader};
 use crate::fault::ReadFault;
 use crate::sums::{code, sum};
 use crate::{
@@ -15,7 +24,7 @@ use crate::{
 use reg_base::List;
 use std::alloc::Global;
 
-/// What a verb opens.
+// What a verb opens.
 #[derive(Clone, Copy)]
 pub(crate) enum Opening {
     Makes(Verb),
@@ -26,10 +35,10 @@ pub(crate) enum Opening {
     Enters,
 }
 
-/// `point`, or a code.
+// `point`, or a code.
 #[tactic(auto, unfolding(crate::specs::Binds::bind_to))]
 fn bind_to(cursor: &mut Cursor) -> Result<PlainTo, ReadFault>
-    ensures { Reads result (rest cursor.new) (bind_to_of (rest cursor.old)) }
+    ensures { ReadsTokens result (rest cursor.new) (bind_to_of (rest cursor.old)) }
 {
     if cursor.takes_word("point") {
         return Ok(PlainTo::Point);
@@ -38,10 +47,10 @@ fn bind_to(cursor: &mut Cursor) -> Result<PlainTo, ReadFault>
     Ok(PlainTo::Code(code))
 }
 
-/// A dimension, `=` and its value.
+// A dimension, `=` and its value.
 #[tactic(auto, unfolding(crate::specs::Binds::bind))]
 fn bind(cursor: &mut Cursor) -> Result<PlainBind, ReadFault>
-    ensures { Reads result (rest cursor.new) (bind_of (rest cursor.old)) }
+    ensures { ReadsTokens result (rest cursor.new) (bind_of (rest cursor.old)) }
 {
     let dimension = cursor.name()?;
     cursor.mark(Mark::Equal)?;
@@ -70,21 +79,21 @@ impl Follows for PlainBind {
     }
 }
 
-/// None before a semicolon, or one and more behind commas.
+// None before a semicolon, or one and more behind commas.
 #[tactic(auto, unfolding(crate::specs::Binds::binds))]
 fn binds(alloc: Global, cursor: &mut Cursor) -> Result<List<PlainBind>, ReadFault>
-    ensures { Reads result (rest cursor.new) (binds_of (rest cursor.old)) }
+    ensures { ReadsTokens result (rest cursor.new) (binds_of (rest cursor.old)) }
 {
     if cursor.is_mark(Mark::Semicolon) {
         return Ok(List::new(alloc));
     }
-    list_of(alloc, cursor)
+    list_reader(alloc, cursor)
 }
 
-/// A register, then `(`, its binds and `;`.
+// A register, then `(`, its binds and `;`.
 #[tactic(auto, unfolding(crate::specs::Binds::target))]
 fn target(alloc: Global, cursor: &mut Cursor) -> Result<Target, ReadFault>
-    ensures { Reads result (rest cursor.new) (target_of (rest cursor.old)) }
+    ensures { ReadsTokens result (rest cursor.new) (target_of (rest cursor.old)) }
 {
     let register = cursor.name()?;
     cursor.mark(Mark::Open)?;
@@ -93,10 +102,10 @@ fn target(alloc: Global, cursor: &mut Cursor) -> Result<Target, ReadFault>
     Ok(Target { register, binds })
 }
 
-/// A resource, `=` and a sum.
+// A resource, `=` and a sum.
 #[tactic(auto, unfolding(crate::specs::Binds::amount))]
 fn amount(alloc: Global, cursor: &mut Cursor) -> Result<PlainAmount, ReadFault>
-    ensures { Reads result (rest cursor.new) (amount_of (rest cursor.old)) }
+    ensures { ReadsTokens result (rest cursor.new) (amount_of (rest cursor.old)) }
 {
     let resource = cursor.name()?;
     cursor.mark(Mark::Equal)?;
@@ -125,18 +134,18 @@ impl Follows for PlainAmount {
     }
 }
 
-/// One amount, and more behind commas.
+// One amount, and more behind commas.
 #[tactic(auto, unfolding(crate::specs::Binds::amounts))]
 fn amounts(alloc: Global, cursor: &mut Cursor) -> Result<List<PlainAmount>, ReadFault>
-    ensures { Reads result (rest cursor.new) (amounts_of (rest cursor.old)) }
+    ensures { ReadsTokens result (rest cursor.new) (amounts_of (rest cursor.old)) }
 {
-    list_of(alloc, cursor)
+    list_reader(alloc, cursor)
 }
 
-/// Receipt, expense, turn: a target, amounts and `)`.
+// Receipt, expense, turn: a target, amounts and `)`.
 #[tactic(auto, unfolding(crate::specs::Acts::make))]
 fn make(alloc: Global, cursor: &mut Cursor, verb: Verb) -> Result<PlainAct, ReadFault>
-    ensures { Reads result (rest cursor.new) (make_of verb (rest cursor.old)) }
+    ensures { ReadsTokens result (rest cursor.new) (make_of verb (rest cursor.old)) }
 {
     let target = target(alloc, cursor)?;
     let sums = amounts(alloc, cursor)?;
@@ -144,10 +153,10 @@ fn make(alloc: Global, cursor: &mut Cursor, verb: Verb) -> Result<PlainAct, Read
     Ok(PlainAct::Make { verb, target, sums })
 }
 
-/// Fifo, average: a target, the amount wanted, the resource of the cost and `)`.
+// Fifo, average: a target, the amount wanted, the resource of the cost and `)`.
 #[tactic(auto, unfolding(crate::specs::Acts::write_off))]
 fn write_off(alloc: Global, cursor: &mut Cursor, fifo: bool) -> Result<PlainAct, ReadFault>
-    ensures { Reads result (rest cursor.new) (write_off_of fifo (rest cursor.old)) }
+    ensures { ReadsTokens result (rest cursor.new) (write_off_of fifo (rest cursor.old)) }
 {
     let target = target(alloc, cursor)?;
     let wanted = amount(alloc, cursor)?;
@@ -162,10 +171,10 @@ fn write_off(alloc: Global, cursor: &mut Cursor, fifo: bool) -> Result<PlainAct,
     })
 }
 
-/// Require: a target, a resource and `)`, then `>=`, a sum, `code` and a code.
+// Require: a target, a resource and `)`, then `>=`, a sum, `code` and a code.
 #[tactic(auto, unfolding(crate::specs::Acts::require))]
 fn require(alloc: Global, cursor: &mut Cursor) -> Result<PlainAct, ReadFault>
-    ensures { Reads result (rest cursor.new) (require_of (rest cursor.old)) }
+    ensures { ReadsTokens result (rest cursor.new) (require_of (rest cursor.old)) }
 {
     let target = target(alloc, cursor)?;
     let resource = cursor.name()?;
@@ -182,10 +191,10 @@ fn require(alloc: Global, cursor: &mut Cursor) -> Result<PlainAct, ReadFault>
     })
 }
 
-/// Control: a register and a resource.
+// Control: a register and a resource.
 #[tactic(auto, unfolding(crate::specs::Acts::control))]
 fn control(cursor: &mut Cursor) -> Result<PlainAct, ReadFault>
-    ensures { Reads result (rest cursor.new) (control_of (rest cursor.old)) }
+    ensures { ReadsTokens result (rest cursor.new) (control_of (rest cursor.old)) }
 {
     let register = cursor.name()?;
     let resource = cursor.name()?;
@@ -193,7 +202,7 @@ fn control(cursor: &mut Cursor) -> Result<PlainAct, ReadFault>
 }
 
 impl Listed for PlainCode {
-    ghost reads = { code_of };
+    ghost reads = { code_read };
 
     fn read(_alloc: Global, cursor: &mut Cursor) -> Result<PlainCode, ReadFault> {
         code(cursor)
@@ -213,21 +222,21 @@ impl Follows for PlainCode {
     }
 }
 
-/// None before `)`, or one and more behind commas.
+// None before `)`, or one and more behind commas.
 #[tactic(auto, unfolding(crate::specs::Acts::extra_codes))]
 fn extra_codes(alloc: Global, cursor: &mut Cursor) -> Result<List<PlainCode>, ReadFault>
-    ensures { Reads result (rest cursor.new) (extra_codes_of (rest cursor.old)) }
+    ensures { ReadsTokens result (rest cursor.new) (extra_codes_of (rest cursor.old)) }
 {
     if cursor.is_mark(Mark::Close) {
         return Ok(List::new(alloc));
     }
-    list_of(alloc, cursor)
+    list_reader(alloc, cursor)
 }
 
-/// An account, then its extras between `(` and `)`.
+// An account, then its extras between `(` and `)`.
 #[tactic(auto, unfolding(crate::specs::Acts::account_side))]
 fn account_side(alloc: Global, cursor: &mut Cursor) -> Result<Option<PlainSide>, ReadFault>
-    ensures { Reads result (rest cursor.new) (account_side_of (rest cursor.old)) }
+    ensures { ReadsTokens result (rest cursor.new) (account_side_of (rest cursor.old)) }
 {
     let account = code(cursor)?;
     cursor.mark(Mark::Open)?;
@@ -236,10 +245,10 @@ fn account_side(alloc: Global, cursor: &mut Cursor) -> Result<Option<PlainSide>,
     Ok(Some(PlainSide { account, extras }))
 }
 
-/// `none`, or an account.
+// `none`, or an account.
 #[tactic(auto, unfolding(crate::specs::Acts::side))]
 fn side(alloc: Global, cursor: &mut Cursor) -> Result<Option<PlainSide>, ReadFault>
-    ensures { Reads result (rest cursor.new) (side_of (rest cursor.old)) }
+    ensures { ReadsTokens result (rest cursor.new) (side_of (rest cursor.old)) }
 {
     if cursor.takes_word("none") {
         return Ok(None);
@@ -247,10 +256,10 @@ fn side(alloc: Global, cursor: &mut Cursor) -> Result<Option<PlainSide>, ReadFau
     account_side(alloc, cursor)
 }
 
-/// `debit` and a side, a comma, `credit` and a side.
+// `debit` and a side, a comma, `credit` and a side.
 #[tactic(auto, unfolding(crate::specs::Acts::sides))]
 fn sides(alloc: Global, cursor: &mut Cursor) -> Result<PlainSides, ReadFault>
-    ensures { Reads result (rest cursor.new) (sides_of (rest cursor.old)) }
+    ensures { ReadsTokens result (rest cursor.new) (sides_of (rest cursor.old)) }
 {
     cursor.word("debit")?;
     let debit = side(alloc, cursor)?;
@@ -260,10 +269,10 @@ fn sides(alloc: Global, cursor: &mut Cursor) -> Result<PlainSides, ReadFault>
     Ok(PlainSides { debit, credit })
 }
 
-/// Entry: a ledger, then between `(` and `)` the sides, `;` and a sum.
+// Entry: a ledger, then between `(` and `)` the sides, `;` and a sum.
 #[tactic(auto, unfolding(crate::specs::Acts::entry))]
 fn entry(alloc: Global, cursor: &mut Cursor) -> Result<PlainAct, ReadFault>
-    ensures { Reads result (rest cursor.new) (entry_of (rest cursor.old)) }
+    ensures { ReadsTokens result (rest cursor.new) (entry_of (rest cursor.old)) }
 {
     let ledger = cursor.name()?;
     cursor.mark(Mark::Open)?;
@@ -278,7 +287,7 @@ fn entry(alloc: Global, cursor: &mut Cursor) -> Result<PlainAct, ReadFault>
     })
 }
 
-/// What a verb opens.
+// What a verb opens.
 #[tactic(auto, unfolding(crate::specs::Acts::opening_of))]
 fn opening_of(spelling: &Spelling) -> Option<Opening>
     ensures { result ≡ opening_of_word spelling.now }
@@ -311,10 +320,10 @@ fn front_opening(cursor: &Cursor) -> Option<Opening>
     opening_of(&spelling)
 }
 
-/// The verb.
+// The verb.
 #[tactic(auto, unfolding(crate::specs::Acts::verb))]
 fn verb(cursor: &mut Cursor) -> Result<Opening, ReadFault>
-    ensures { Reads result (rest cursor.new) (verb_of (rest cursor.old)) }
+    ensures { ReadsTokens result (rest cursor.new) (verb_of (rest cursor.old)) }
 {
     match front_opening(cursor) {
         Some(opening) => {
@@ -325,10 +334,10 @@ fn verb(cursor: &mut Cursor) -> Result<Opening, ReadFault>
     }
 }
 
-/// What stands behind the verb.
+// What stands behind the verb.
 #[tactic(auto, unfolding(crate::specs::Acts::act_of))]
 fn opened(alloc: Global, cursor: &mut Cursor, opening: Opening) -> Result<PlainAct, ReadFault>
-    ensures { Reads result (rest cursor.new) (act_of opening (rest cursor.old)) }
+    ensures { ReadsTokens result (rest cursor.new) (act_of opening (rest cursor.old)) }
 {
     match opening {
         Opening::Makes(verb) => make(alloc, cursor, verb),
@@ -339,10 +348,10 @@ fn opened(alloc: Global, cursor: &mut Cursor, opening: Opening) -> Result<PlainA
     }
 }
 
-/// A verb and what stands behind it.
+// A verb and what stands behind it.
 #[tactic(auto, unfolding(crate::specs::Acts::act))]
 pub(crate) fn act(alloc: Global, cursor: &mut Cursor) -> Result<PlainAct, ReadFault>
-    ensures { Reads result (rest cursor.new) (any_act (rest cursor.old)) }
+    ensures { ReadsTokens result (rest cursor.new) (any_act (rest cursor.old)) }
 {
     let opening = verb(cursor)?;
     opened(alloc, cursor, opening)

@@ -6,7 +6,7 @@ ghost use Rattle.rule_text.specs.declared.fault.TextFault.TheVariants.{Memory as
 use reg_base::Memory;
 use std::alloc::{AllocError, AllocFailed};
 
-/// Where reading can't go on.
+// Where reading can't go on.
 #[derive(Clone, Copy)]
 pub(crate) enum ReadFault {
     /// The place of the token or byte that can't follow; none where the text ended.

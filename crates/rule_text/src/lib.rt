@@ -5,7 +5,8 @@
 //!
 //! Stands on: `reg_base` for names and codes.
 //!
-//! Promises: `parse` gives exactly the statements of a text, or the place of its first fault.
+//! Promises: `parse` gives exactly the statements of a text, or the place of its first fault; and
+//! every text that begins with the same tokens through that place is refused there too.
 //!
 //! Leaves open: what the names mean, and when memory is refused.
 #![tactic(auto)]
@@ -13,6 +14,7 @@
 mod acts;
 mod cursor;
 mod fault;
+mod laws;
 mod mark;
 mod piece;
 mod plain;
@@ -21,6 +23,7 @@ mod sums;
 mod token;
 
 pub use fault::TextFault;
+pub use laws::refusals_stand;
 pub use mark::Mark;
 pub use plain::{
     PlainAct, PlainAmount, PlainBind, PlainCode, PlainCond, PlainPart, PlainSide, PlainSides,

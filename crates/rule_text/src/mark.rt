@@ -1,6 +1,7 @@
 //! Marks: what stands between words, numbers and codes.
 ghost use Rattle.std.specs.Prelude.{◌≡◌};
-ghost use Rattle.rule_text.specs.Marks.{mark_text, single_mark as mark_of_byte, double_mark as mark_of_bytes};
+ghost use Rattle.rule_text.specs.Marks.{mark_text, single_mark as mark_of_byte};
+ghost use Rattle.rule_text.specs.Marks.{double_mark as mark_of_bytes};
 
 /// A mark of a text of rules.
 #[derive(Clone, Copy, Debug)]
@@ -44,7 +45,7 @@ impl Mark {
     }
 }
 
-/// The mark of one byte.
+// The mark of one byte.
 #[tactic(auto, unfolding(crate::specs::Marks::single_mark))]
 pub(crate) fn single_mark(byte: u8) -> Option<Mark>
     ensures { result ≡ mark_of_byte byte }
@@ -64,7 +65,7 @@ pub(crate) fn single_mark(byte: u8) -> Option<Mark>
     }
 }
 
-/// The mark of two bytes: `<=`, `<>` or `>=`.
+// The mark of two bytes: `<=`, `<>` or `>=`.
 #[tactic(auto, unfolding(crate::specs::Marks::double_mark))]
 pub(crate) fn double_mark(first: u8, second: u8) -> Option<Mark>
     ensures { result ≡ mark_of_bytes first second }

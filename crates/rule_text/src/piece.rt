@@ -1,24 +1,31 @@
 //! The tokens of a text, found one behind another.
-ghost use Rattle.std.specs.Prelude.{◌≡◌, ℕ, List, ◌+◌, ◌-◌, ◌^◌, ◌<◌, ◌≤◌, ◌⊎◌, ◌++◌, ◌∷◌, [], min, slice_index, IfSome, length, take, if◌then◌else◌, Some, None, IfOk};
+ghost use Rattle.std.specs.Prelude.{◌≡◌, ℕ, List, ◌+◌, ◌-◌, ◌^◌, ◌<◌, ◌≤◌, ◌⊎◌, ◌++◌, ◌∷◌, [], min};
+ghost use Rattle.std.specs.Prelude.{slice_index, IfSome, length, take, if◌then◌else◌, Some, None};
+ghost use Rattle.std.specs.Prelude.{IfOk};
 ghost use Rattle.std.specs.List.{prefix_len};
 ghost use Rattle.std.specs.Char.{is_ascii_digit};
 ghost use Rattle.reg_base.specs.Codes.{is_code, is_code_byte as is_code_byte_of};
 ghost use Rattle.reg_base.specs.Numbers.{read_on as read_on_from};
-ghost use Rattle.rule_text.specs.Tokens.{is_blank, is_word_byte, spelling_of, literal_of as literal_of_digits, decimal_count as decimal_count_of, word_lexeme as word_lexeme_of, number_lexeme as number_lexeme_of, quoted_lexeme as quoted_lexeme_of, mark_lexeme as mark_lexeme_of, lexeme_of, closed_code as closed_code_of, pieces_from, tokens_of as tokens_of_text};
+ghost use Rattle.rule_text.specs.Tokens.{is_blank, is_word_byte, spelling_of};
+ghost use Rattle.rule_text.specs.Tokens.{literal_of as literal_of_digits};
+ghost use Rattle.rule_text.specs.Tokens.{decimal_count as decimal_count_of};
+ghost use Rattle.rule_text.specs.Tokens.{word_lexeme as word_lexeme_of};
+ghost use Rattle.rule_text.specs.Tokens.{number_lexeme as number_lexeme_of};
+ghost use Rattle.rule_text.specs.Tokens.{quoted_lexeme as quoted_lexeme_of};
+ghost use Rattle.rule_text.specs.Tokens.{mark_lexeme as mark_lexeme_of, lexeme_of};
+ghost use Rattle.rule_text.specs.Tokens.{closed_code as closed_code_of, pieces_from};
+ghost use Rattle.rule_text.specs.Tokens.{tokens_of as tokens_of_text};
 
 use crate::mark::{double_mark, single_mark};
 use crate::{Lexeme, Literal, Spelling, Token};
-use reg_base::{Code, List, Memory, Name};
+use reg_base::{Code, LARGEST_UNITS, List, Memory, Name, digit_count, is_code_byte, read_on};
 use std::alloc::Global;
 use std::str;
 
-/// The least number of units that is too large.
-const LEAST_TOO_LARGE: u64 = 1_000_000_000_000_000;
-
-/// How many bytes a code has at the most.
+// How many bytes a code has at the most.
 const LONGEST_CODE: usize = 32;
 
-/// The tokens of a text, each with its place.
+// The tokens of a text, each with its place.
 #[tactic(auto, unfolding(crate::specs::Tokens::tokens_of))]
 pub(crate) fn tokens_of(alloc: Global, text: &str) -> Result<List<Lexeme>, Memory>
     ensures { IfOk result (λ tokens. tokens ≡ tokens_of_text text.now) }
@@ -26,13 +33,13 @@ pub(crate) fn tokens_of(alloc: Global, text: &str) -> Result<List<Lexeme>, Memor
     pieces_of(alloc, text.as_bytes())
 }
 
-/// A piece of a text, between blanks or other pieces.
+// A piece of a text, between blanks or other pieces.
 trait Piece: Drop {
     ghost begins: { ℕ → List ℕ → Self };
 
     ghost len_of: { Self → ℕ };
 
-    /// The piece at the place, whose first byte is the first of these.
+    // The piece at the place, whose first byte is the first of these.
     fn begin(place: usize, bytes: &[u8]) -> Self
         requires some { 0 < length bytes.now }
         requires fits { place + length bytes.now < 2 ^ 63 }
@@ -86,7 +93,7 @@ fn blank_len(bytes: &[u8]) -> usize
         .count()
 }
 
-/// The token at the place, whose first byte is the first of these.
+// The token at the place, whose first byte is the first of these.
 #[tactic(auto, unfolding(crate::specs::Tokens::lexeme_of))]
 fn lexeme_at(place: usize, bytes: &[u8]) -> Lexeme
     requires some { 0 < length bytes.now }
@@ -169,13 +176,6 @@ fn number_lexeme(place: usize, bytes: &[u8]) -> Lexeme
     }
 }
 
-fn digit_count(bytes: &[u8]) -> usize
-    ensures value { result ≡ prefix_len is_ascii_digit bytes.now }
-    ensures within { result ≤ length bytes.now }
-{
-    bytes.iter().take_while(|b| b.is_ascii_digit()).count()
-}
-
 #[tactic(auto, unfolding(crate::specs::Tokens::decimal_count))]
 fn decimal_count(bytes: &[u8], whole: usize) -> usize
     requires { whole ≤ length bytes.now }
@@ -188,25 +188,13 @@ fn decimal_count(bytes: &[u8], whole: usize) -> usize
     }
 }
 
-/// What the digits spell behind those of `start`, or the largest `u64` where that is less.
-fn read_on(start: u64, digits: &[u8]) -> u64
-    ensures { result ≡ min (read_on_from start digits.now) (2 ^ 64 - 1) }
-{
-    let mut value = start;
-    for digit in digits {
-        let unit = u64::from(digit.saturating_sub(b'0'));
-        value = value.saturating_mul(10).saturating_add(unit);
-    }
-    value
-}
-
 fn literal_of(whole: &[u8], decimals: &[u8], count: usize) -> Literal
     ensures { let digits = read_on_from (read_on_from 0 whole.now) decimals.now in
         result ≡ literal_of_digits digits count }
 {
     let digits = read_on(read_on(0, whole), decimals);
     Literal {
-        digits: digits.min(LEAST_TOO_LARGE),
+        digits: digits.min(LARGEST_UNITS + 1),
         decimals: count,
     }
 }
@@ -233,7 +221,7 @@ fn quoted_lexeme(place: usize, bytes: &[u8]) -> Lexeme
     }
 }
 
-/// The code of so many bytes behind a quote, where another quote closes it.
+// The code of so many bytes behind a quote, where another quote closes it.
 #[tactic(auto, unfolding(crate::specs::Tokens::closed_code))]
 fn closed_code(bytes: &[u8], len: usize) -> Option<Code>
     requires { len < length bytes.now }
@@ -254,12 +242,6 @@ fn code_len(bytes: &[u8]) -> usize
     bytes.iter().take_while(|b| is_code_byte(**b)).count()
 }
 
-fn is_code_byte(b: u8) -> bool
-    ensures { result ≡ is_code_byte_of b }
-{
-    b.is_ascii_alphanumeric() || b == b'_' || b == b'.' || b == b'-'
-}
-
 fn code_at(bytes: &[u8]) -> Option<Code>
     ensures { result ≡ (if is_code bytes.now then Some bytes.now else None) }
 {
@@ -269,7 +251,7 @@ fn code_at(bytes: &[u8]) -> Option<Code>
     }
 }
 
-/// The byte at the place, and 0 behind the end.
+// The byte at the place, and 0 behind the end.
 fn byte_at(bytes: &[u8], place: usize) -> u8
     ensures { result ≡ slice_index bytes.now place }
 {

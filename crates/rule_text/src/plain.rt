@@ -1,6 +1,7 @@
 //! Statements as they are written: names as words, numbers as digits, no name looked up.
 ghost use Rattle.std.specs.Prelude.{◌≡◌};
-ghost use Rattle.rule_text.specs.Plain.{code_of_part as code_of_plain_part, lone_field as lone_field_of, equality_of};
+ghost use Rattle.rule_text.specs.Plain.{code_of_part as code_of_plain_part};
+ghost use Rattle.rule_text.specs.Plain.{lone_field as lone_field_of, equality_of};
 
 use crate::{Literal, Spelling};
 use reg_base::{Code, List};
@@ -160,7 +161,7 @@ pub enum Test {
     Differs,
 }
 
-/// The field of head or line that a part is, which may be a code's.
+// The field of head or line that a part is, which may be a code's.
 fn code_of_part(part: &PlainPart) -> Option<PlainCode>
     ensures { result ≡ code_of_plain_part part.now }
 {

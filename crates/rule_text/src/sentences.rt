@@ -2,9 +2,17 @@
 ghost use Rattle.std.specs.Prelude.{◌≡◌, option_and_then};
 ghost use Rattle.reg_base.specs.Results.{Gives};
 ghost use Rattle.rule_text.specs.Plain.{lone_field as lone_field_of, equality_of};
-ghost use Rattle.rule_text.specs.Readers.{Reads, rest};
-ghost use Rattle.rule_text.specs.Conditions.{test_of as test_of_mark, front_test as front_test_of, comparison as test_read, equality as equality_read, text_cond as text_cond_of, sums_cond as sums_cond_of, field_cond as field_cond_of, compared as compared_of, sum_cond as sum_cond_of, cond as cond_of, when as when_of};
-ghost use Rattle.rule_text.specs.Sentences.{scope as scope_of, statement as statement_of, next_statement, statements as statements_read, statements_of};
+ghost use Rattle.rule_text.specs.Readers.{ReadsTokens, rest};
+ghost use Rattle.rule_text.specs.Conditions.{test_of as test_of_mark, front_test as front_test_of};
+ghost use Rattle.rule_text.specs.Conditions.{comparison as test_read, equality as equality_read};
+ghost use Rattle.rule_text.specs.Conditions.{text_cond as text_cond_of, sums_cond as sums_cond_of};
+ghost use Rattle.rule_text.specs.Conditions.{field_cond as field_cond_of};
+ghost use Rattle.rule_text.specs.Conditions.{code_or_sum_cond as code_or_sum_cond_of};
+ghost use Rattle.rule_text.specs.Conditions.{sum_cond as sum_cond_of, cond as cond_of};
+ghost use Rattle.rule_text.specs.Conditions.{when as when_of};
+ghost use Rattle.rule_text.specs.Sentences.{scope as scope_of, statement as statement_of};
+ghost use Rattle.rule_text.specs.Sentences.{next_statement, statements as statements_read};
+ghost use Rattle.rule_text.specs.Sentences.{statements_of};
 ghost use Rattle.rule_text.specs.declared.fault.TextFault.TheVariants.{Memory as WantOfMemory};
 
 use crate::acts::act;
@@ -40,10 +48,10 @@ fn front_test(cursor: &Cursor) -> Option<Test>
     test_of(mark)
 }
 
-/// A mark between sums.
+// A mark between sums.
 #[tactic(auto, unfolding(crate::specs::Conditions::comparison))]
 fn test(cursor: &mut Cursor) -> Result<Test, ReadFault>
-    ensures { Reads result (rest cursor.new) (test_read (rest cursor.old)) }
+    ensures { ReadsTokens result (rest cursor.new) (test_read (rest cursor.old)) }
 {
     match front_test(cursor) {
         Some(test) => {
@@ -54,7 +62,7 @@ fn test(cursor: &mut Cursor) -> Result<Test, ReadFault>
     }
 }
 
-/// The test for equality that the mark in front asks for.
+// The test for equality that the mark in front asks for.
 fn front_equality(cursor: &Cursor) -> Option<bool>
     ensures { result ≡ option_and_then equality_of (front_test_of (rest cursor.now)) }
 {
@@ -62,10 +70,10 @@ fn front_equality(cursor: &Cursor) -> Option<bool>
     test.equality()
 }
 
-/// A mark between codes, `=` or `<>`: whether they have to be equal.
+// A mark between codes, `=` or `<>`: whether they have to be equal.
 #[tactic(auto, unfolding(crate::specs::Conditions::equality))]
 fn equality(cursor: &mut Cursor) -> Result<bool, ReadFault>
-    ensures { Reads result (rest cursor.new) (equality_read (rest cursor.old)) }
+    ensures { ReadsTokens result (rest cursor.new) (equality_read (rest cursor.old)) }
 {
     match front_equality(cursor) {
         Some(equal) => {
@@ -76,10 +84,10 @@ fn equality(cursor: &mut Cursor) -> Result<bool, ReadFault>
     }
 }
 
-/// A text is compared with a code.
+// A text is compared with a code.
 #[tactic(auto, unfolding(crate::specs::Conditions::text_cond))]
 fn text_cond(cursor: &mut Cursor, text: Code) -> Result<PlainCond, ReadFault>
-    ensures { Reads result (rest cursor.new) (text_cond_of text (rest cursor.old)) }
+    ensures { ReadsTokens result (rest cursor.new) (text_cond_of text (rest cursor.old)) }
 {
     let equal = equality(cursor)?;
     let right = code(cursor)?;
@@ -90,7 +98,7 @@ fn text_cond(cursor: &mut Cursor, text: Code) -> Result<PlainCond, ReadFault>
     })
 }
 
-/// A sum is compared with a sum.
+// A sum is compared with a sum.
 #[tactic(auto, unfolding(crate::specs::Conditions::sums_cond))]
 fn sums_cond(
     alloc: Global,
@@ -98,13 +106,13 @@ fn sums_cond(
     left: List<PlainTerm>,
     test: Test,
 ) -> Result<PlainCond, ReadFault>
-    ensures { Reads result (rest cursor.new) (sums_cond_of left test (rest cursor.old)) }
+    ensures { ReadsTokens result (rest cursor.new) (sums_cond_of left test (rest cursor.old)) }
 {
     let right = sum(alloc, cursor)?;
     Ok(PlainCond::Sums { left, test, right })
 }
 
-/// A field that may have a code is compared with a text, where one follows, and else as a sum.
+// A field that may have a code is compared with a text, where one follows, and else as a sum.
 #[tactic(auto, unfolding(crate::specs::Conditions::field_cond))]
 fn field_cond(
     alloc: Global,
@@ -114,7 +122,7 @@ fn field_cond(
     left: List<PlainTerm>,
     test: Test,
 ) -> Result<PlainCond, ReadFault>
-    ensures { Reads result (rest cursor.new)
+    ensures { ReadsTokens result (rest cursor.new)
         (field_cond_of field equal left test (rest cursor.old)) }
 {
     match cursor.code_if()? {
@@ -127,14 +135,14 @@ fn field_cond(
     }
 }
 
-fn compared(
+fn code_or_sum_cond(
     alloc: Global,
     cursor: &mut Cursor,
     left: List<PlainTerm>,
     test: Test,
 ) -> Result<PlainCond, ReadFault>
-    ensures { Reads result (rest cursor.new)
-        (compared_of (lone_field_of left) (equality_of test) left test (rest cursor.old)) }
+    ensures { ReadsTokens result (rest cursor.new)
+        (code_or_sum_cond_of (lone_field_of left) (equality_of test) left test (rest cursor.old)) }
 {
     match (lone_field(left.as_slice()), test.equality()) {
         (Some(field), Some(equal)) => field_cond(alloc, cursor, field, equal, left, test),
@@ -142,20 +150,20 @@ fn compared(
     }
 }
 
-/// A condition that begins with a sum.
+// A condition that begins with a sum.
 #[tactic(auto, unfolding(crate::specs::Conditions::sum_cond))]
 fn sum_cond(alloc: Global, cursor: &mut Cursor) -> Result<PlainCond, ReadFault>
-    ensures { Reads result (rest cursor.new) (sum_cond_of (rest cursor.old)) }
+    ensures { ReadsTokens result (rest cursor.new) (sum_cond_of (rest cursor.old)) }
 {
     let left = sum(alloc, cursor)?;
     let test = test(cursor)?;
-    compared(alloc, cursor, left, test)
+    code_or_sum_cond(alloc, cursor, left, test)
 }
 
-/// A condition: a text with a code, or a sum with what it can be compared with.
+// A condition: a text with a code, or a sum with what it can be compared with.
 #[tactic(auto, unfolding(crate::specs::Conditions::cond))]
 fn cond(alloc: Global, cursor: &mut Cursor) -> Result<PlainCond, ReadFault>
-    ensures { Reads result (rest cursor.new) (cond_of (rest cursor.old)) }
+    ensures { ReadsTokens result (rest cursor.new) (cond_of (rest cursor.old)) }
 {
     match cursor.code_if()? {
         Some(text) => text_cond(cursor, text),
@@ -163,10 +171,10 @@ fn cond(alloc: Global, cursor: &mut Cursor) -> Result<PlainCond, ReadFault>
     }
 }
 
-/// `when` and a condition, if one follows.
+// `when` and a condition, if one follows.
 #[tactic(auto, unfolding(crate::specs::Conditions::when))]
 fn when(alloc: Global, cursor: &mut Cursor) -> Result<Option<PlainCond>, ReadFault>
-    ensures { Reads result (rest cursor.new) (when_of (rest cursor.old)) }
+    ensures { ReadsTokens result (rest cursor.new) (when_of (rest cursor.old)) }
 {
     if !cursor.takes_word("when") {
         return Ok(None);
@@ -175,10 +183,10 @@ fn when(alloc: Global, cursor: &mut Cursor) -> Result<Option<PlainCond>, ReadFau
     Ok(Some(condition))
 }
 
-/// `once` or `each line`, if one stands in front.
+// `once` or `each line`, if one stands in front.
 #[tactic(auto, unfolding(crate::specs::Sentences::scope))]
 fn scope(cursor: &mut Cursor) -> Result<Option<Scope>, ReadFault>
-    ensures { Reads result (rest cursor.new) (scope_of (rest cursor.old)) }
+    ensures { ReadsTokens result (rest cursor.new) (scope_of (rest cursor.old)) }
 {
     if cursor.takes_word("once") {
         return Ok(Some(Scope::Once));
@@ -190,10 +198,10 @@ fn scope(cursor: &mut Cursor) -> Result<Option<Scope>, ReadFault>
     Ok(Some(Scope::EachLine))
 }
 
-/// A statement whose first byte stands at the place.
+// A statement whose first byte stands at the place.
 #[tactic(auto, unfolding(crate::specs::Sentences::statement))]
 fn statement(alloc: Global, cursor: &mut Cursor, place: usize) -> Result<PlainStatement, ReadFault>
-    ensures { Reads result (rest cursor.new) (statement_of place (rest cursor.old)) }
+    ensures { ReadsTokens result (rest cursor.new) (statement_of place (rest cursor.old)) }
 {
     let scope = scope(cursor)?;
     let act = act(alloc, cursor)?;
@@ -220,14 +228,13 @@ impl Follows for PlainStatement {
     }
 }
 
-/// Statements to the end of the text.
+// One statement after another to the end of the text: a token that begins none is refused where
+// the next statement is read.
 #[tactic(auto, unfolding(crate::specs::Sentences::statements))]
 fn statements(alloc: Global, cursor: &mut Cursor) -> Result<List<PlainStatement>, ReadFault>
-    ensures { Reads result (rest cursor.new) (statements_read (rest cursor.old)) }
+    ensures { ReadsTokens result (rest cursor.new) (statements_read (rest cursor.old)) }
 {
-    let all = list_on(alloc, Vec::new(alloc), cursor)?;
-    cursor.ends()?;
-    Ok(all)
+    list_on(alloc, Vec::new(alloc), cursor)
 }
 
 /// The statements that a text says, or the place of the first token or byte that can't follow.

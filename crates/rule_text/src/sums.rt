@@ -1,34 +1,38 @@
 //! Codes, terms and sums as they are written.
 ghost use Rattle.std.specs.Prelude.{◌≡◌, false};
-ghost use Rattle.rule_text.specs.Readers.{Reads, rest};
-ghost use Rattle.rule_text.specs.Sums.{field as field_of, owner as owner_of, code_field as code_field_of, field_code as field_code_of, code as code_of, field_part as field_part_of, part as part_of, term as term_of, joint as joint_of, next_term, sum as sum_of};
+ghost use Rattle.rule_text.specs.Readers.{ReadsTokens, rest};
+ghost use Rattle.rule_text.specs.Sums.{field as field_of, owner as owner_of};
+ghost use Rattle.rule_text.specs.Sums.{code_field as code_field_of, field_code as field_code_of};
+ghost use Rattle.rule_text.specs.Sums.{code as code_read, field_part as field_part_of};
+ghost use Rattle.rule_text.specs.Sums.{part as part_of, term as term_of, joint as joint_of};
+ghost use Rattle.rule_text.specs.Sums.{next_term, sum as sum_of};
 
-use crate::cursor::{Cursor, Follows, Listed, list_of};
+use crate::cursor::{Cursor, Follows, Listed, list_reader};
 use crate::fault::ReadFault;
 use crate::{Mark, PlainCode, PlainPart, PlainTerm, Spelling};
 use reg_base::List;
 use std::alloc::Global;
 
-/// What has fields.
+// What has fields.
 #[derive(Clone, Copy)]
 pub(crate) enum Owner {
     OfHead,
     OfLine,
 }
 
-/// A point and the name of a field.
+// A point and the name of a field.
 #[tactic(auto, unfolding(crate::specs::Sums::field))]
 fn field(cursor: &mut Cursor) -> Result<Spelling, ReadFault>
-    ensures { Reads result (rest cursor.new) (field_of (rest cursor.old)) }
+    ensures { ReadsTokens result (rest cursor.new) (field_of (rest cursor.old)) }
 {
     cursor.mark(Mark::Point)?;
     cursor.name()
 }
 
-/// The word of head or of line.
+// The word of head or of line.
 #[tactic(auto, unfolding(crate::specs::Sums::owner))]
 fn owner_word(cursor: &mut Cursor) -> Result<Owner, ReadFault>
-    ensures { Reads result (rest cursor.new) (owner_of (rest cursor.old)) }
+    ensures { ReadsTokens result (rest cursor.new) (owner_of (rest cursor.old)) }
 {
     if cursor.takes_word("head") {
         return Ok(Owner::OfHead);
@@ -48,20 +52,20 @@ fn code_field(owner: Owner, spelling: Spelling) -> PlainCode
     }
 }
 
-/// A field of head or line.
+// A field of head or line.
 #[tactic(auto, unfolding(crate::specs::Sums::field_code))]
 fn field_code(cursor: &mut Cursor) -> Result<PlainCode, ReadFault>
-    ensures { Reads result (rest cursor.new) (field_code_of (rest cursor.old)) }
+    ensures { ReadsTokens result (rest cursor.new) (field_code_of (rest cursor.old)) }
 {
     let owner = owner_word(cursor)?;
     let spelling = field(cursor)?;
     Ok(code_field(owner, spelling))
 }
 
-/// A code: a text between quotes, or a field of head or line.
+// A code: a text between quotes, or a field of head or line.
 #[tactic(auto, unfolding(crate::specs::Sums::code))]
 pub(crate) fn code(cursor: &mut Cursor) -> Result<PlainCode, ReadFault>
-    ensures { Reads result (rest cursor.new) (code_of (rest cursor.old)) }
+    ensures { ReadsTokens result (rest cursor.new) (code_read (rest cursor.old)) }
 {
     match cursor.code_if()? {
         Some(code) => Ok(PlainCode::Text(code)),
@@ -69,10 +73,10 @@ pub(crate) fn code(cursor: &mut Cursor) -> Result<PlainCode, ReadFault>
     }
 }
 
-/// A part with a field: of head, of line, or the total of a line's field.
+// A part with a field: of head, of line, or the total of a line's field.
 #[tactic(auto, unfolding(crate::specs::Sums::field_part))]
 fn field_part(cursor: &mut Cursor) -> Result<PlainPart, ReadFault>
-    ensures { Reads result (rest cursor.new) (field_part_of (rest cursor.old)) }
+    ensures { ReadsTokens result (rest cursor.new) (field_part_of (rest cursor.old)) }
 {
     if cursor.takes_word("total") {
         let spelling = field(cursor)?;
@@ -86,10 +90,10 @@ fn field_part(cursor: &mut Cursor) -> Result<PlainPart, ReadFault>
     }
 }
 
-/// A part: a number, `cost`, or a field.
+// A part: a number, `cost`, or a field.
 #[tactic(auto, unfolding(crate::specs::Sums::part))]
 fn part(cursor: &mut Cursor) -> Result<PlainPart, ReadFault>
-    ensures { Reads result (rest cursor.new) (part_of (rest cursor.old)) }
+    ensures { ReadsTokens result (rest cursor.new) (part_of (rest cursor.old)) }
 {
     if let Some(literal) = cursor.pick_number() {
         return Ok(PlainPart::Number(literal));
@@ -100,10 +104,10 @@ fn part(cursor: &mut Cursor) -> Result<PlainPart, ReadFault>
     field_part(cursor)
 }
 
-/// A term, which a minus joins to those before it or not.
+// A term, which a minus joins to those before it or not.
 #[tactic(auto, unfolding(crate::specs::Sums::term))]
 fn term(cursor: &mut Cursor, minus: bool) -> Result<PlainTerm, ReadFault>
-    ensures { Reads result (rest cursor.new) (term_of minus (rest cursor.old)) }
+    ensures { ReadsTokens result (rest cursor.new) (term_of minus (rest cursor.old)) }
 {
     let negative = cursor.takes_mark(Mark::Minus);
     let part = part(cursor)?;
@@ -114,10 +118,10 @@ fn term(cursor: &mut Cursor, minus: bool) -> Result<PlainTerm, ReadFault>
     })
 }
 
-/// The mark that joins one more term, if one follows: whether it is a minus.
+// The mark that joins one more term, if one follows: whether it is a minus.
 #[tactic(auto, unfolding(crate::specs::Sums::joint))]
 fn joint(cursor: &mut Cursor) -> Result<Option<bool>, ReadFault>
-    ensures { Reads result (rest cursor.new) (joint_of (rest cursor.old)) }
+    ensures { ReadsTokens result (rest cursor.new) (joint_of (rest cursor.old)) }
 {
     if cursor.takes_mark(Mark::Plus) {
         return Ok(Some(false));
@@ -149,10 +153,10 @@ impl Listed for PlainTerm {
     }
 }
 
-/// A sum: a term, and more with a plus or a minus before each.
+// A sum: a term, and more with a plus or a minus before each.
 #[tactic(auto, unfolding(crate::specs::Sums::sum))]
 pub(crate) fn sum(alloc: Global, cursor: &mut Cursor) -> Result<List<PlainTerm>, ReadFault>
-    ensures { Reads result (rest cursor.new) (sum_of (rest cursor.old)) }
+    ensures { ReadsTokens result (rest cursor.new) (sum_of (rest cursor.old)) }
 {
-    list_of(alloc, cursor)
+    list_reader(alloc, cursor)
 }

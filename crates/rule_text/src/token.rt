@@ -1,6 +1,7 @@
 //! Tokens: the words, numbers, codes and marks that a text of rules is made of.
 ghost use Rattle.std.specs.Prelude.{◌≡◌};
-ghost use Rattle.rule_text.specs.Fronts.{is_spelt, sign_of, word_of, number_of, code_of, break_of};
+ghost use Rattle.rule_text.specs.Fronts.{is_spelt, token_mark, token_word, token_number};
+ghost use Rattle.rule_text.specs.Fronts.{token_code, token_break};
 
 use crate::Mark;
 use reg_base::{Code, Name};
@@ -66,7 +67,7 @@ impl Spelling {
 impl Token {
     /// The mark that the token is.
     pub fn sign(&self) -> Option<Mark>
-        ensures { result ≡ sign_of self.now }
+        ensures { result ≡ token_mark self.now }
     {
         match self {
             Token::Sign(mark) => Some(*mark),
@@ -76,7 +77,7 @@ impl Token {
 
     /// The word that the token is.
     pub fn word(&self) -> Option<Spelling>
-        ensures { result ≡ word_of self.now }
+        ensures { result ≡ token_word self.now }
     {
         match self {
             Token::Word(spelling) => Some(spelling.copied()),
@@ -86,7 +87,7 @@ impl Token {
 
     /// The number that the token is.
     pub fn number(&self) -> Option<Literal>
-        ensures { result ≡ number_of self.now }
+        ensures { result ≡ token_number self.now }
     {
         match self {
             Token::Number(literal) => Some(*literal),
@@ -96,7 +97,7 @@ impl Token {
 
     /// The code that the token is.
     pub fn code(&self) -> Option<Code>
-        ensures { result ≡ code_of self.now }
+        ensures { result ≡ token_code self.now }
     {
         match self {
             Token::Quoted(code) => Some(*code),
@@ -106,7 +107,7 @@ impl Token {
 
     /// The byte at which the token breaks off.
     pub fn broken(&self) -> Option<usize>
-        ensures { result ≡ break_of self.now }
+        ensures { result ≡ token_break self.now }
     {
         match self {
             Token::Broken(at) => Some(*at),

@@ -5,7 +5,7 @@ use std::alloc::Global;
 
 const MARKED: Frame = [">", ""];
 
-/// Lines, each with the canonical text of its request.
+// Lines, each with the canonical text of its request.
 const TEXTS: &[(&str, &str)] = &[
     (
         "{\"op\":\"manual\",\"no\":1,\"date\":\"2024-01-10T09:00:00\",\"clerk\":\"anna\",\
@@ -44,7 +44,7 @@ const TEXTS: &[(&str, &str)] = &[
     ),
 ];
 
-/// What is printed of a request, behind a mark; none where memory is wanted.
+// What is printed of a request, behind a mark; none where memory is wanted.
 fn printed(alloc: Global, request: &Request) -> Option<String> {
     let mut out = Vec::new(alloc);
     out.extend_from_slice(b">").ok()?;
@@ -52,7 +52,7 @@ fn printed(alloc: Global, request: &Request) -> Option<String> {
     String::from_utf8(out).ok()
 }
 
-/// The canonical text of the request that a line is.
+// The canonical text of the request that a line is.
 fn canonical(alloc: Global, line: &str) -> Option<String> {
     match Request::read_text(alloc, line.as_bytes()) {
         Ok(request) => printed(alloc, &request),

@@ -1,47 +1,59 @@
 //! Replies as they are printed, byte by byte.
+ghost use Rattle.std.specs.Prelude.{◌≡◌, length, All, IfSome};
+ghost use Rattle.desk_words.specs.ReplyTexts.{HasMissingScale, RefusalHasScales, AnswerHasScales};
+
 use crate::rows::{REFUSED, WHOLE, expect};
 use crate::tests::{line_of, refused, told_of};
 use desk_words::{Answer, Field, Limit, Refusal, Reply};
-use reg_base::{Code, DocState, EntryFault, List, PostFault, Scale, SumRow, Value};
-use reg_io::Line;
+use reg_base::{Code, DocState, EntryFault, Line, List, PostFault, Scale, SumRow, Value};
 use std::alloc::Global;
 use std::process::Abort;
 use std::test::Fail;
 
-/// What is printed of an answer.
-fn done(alloc: Global, answer: Answer) -> Option<String> {
+// What is printed of an answer.
+fn done(alloc: Global, answer: Answer) -> Option<String>
+    requires { AnswerHasScales answer }
+{
     line_of(alloc, &Reply::Done(answer))
 }
 
-/// The sums of nails.
-fn nails(alloc: Global) -> Option<SumRow> {
+// The sums of nails.
+fn nails(alloc: Global) -> Option<SumRow>
+    ensures { IfSome result (λ row. length row.sums ≡ 2) }
+{
     let nail = Code::parse("nail")?;
     let group = List::from_slice(alloc, &[Value::Code(nail)]).ok()?;
     let sums = List::from_slice(alloc, &[10_000, 5_000]).ok()?;
     Some(SumRow { group, sums })
 }
 
-fn rows(alloc: Global) -> Option<List<SumRow>> {
+fn rows(alloc: Global) -> Option<List<SumRow>>
+    ensures { IfSome result (All (λ row. length row.sums ≡ 2)) }
+{
     let row = nails(alloc)?;
     let mut rows = List::new(alloc);
     rows.push(row).ok()?;
     Some(rows)
 }
 
-/// The scales of a quantity and an amount.
-fn scales(alloc: Global) -> Option<List<Scale>> {
+// The scales of a quantity and an amount.
+fn scales(alloc: Global) -> Option<List<Scale>>
+    ensures { IfSome result (λ scales. length scales ≡ 2) }
+{
     let scales = [Scale::new(3)?, Scale::new(2)?];
     List::from_slice(alloc, &scales).ok()
 }
 
-/// A balance of one row.
-fn balance(alloc: Global) -> Option<Answer> {
+// A balance of one row.
+fn balance(alloc: Global) -> Option<Answer>
+    ensures { IfSome result AnswerHasScales }
+{
     let rows = rows(alloc)?;
     let scales = scales(alloc)?;
     Some(Answer::Balance { rows, scales })
 }
 
-/// What is printed of that balance.
+// What is printed of that balance.
 fn balance_line(alloc: Global) -> Option<String> {
     done(alloc, balance(alloc)?)
 }
@@ -66,19 +78,23 @@ fn accepted_replies_are_printed(rt: HostRuntime) {
     expect(&rt, "a row", balance_line(alloc), &WHOLE, wanted);
 }
 
-/// Asks for the members that are printed of a refusal.
-fn expect_refused(rt: &impl Abort, alloc: Global, refusal: Refusal, wanted: &str) {
+// Asks for the members that are printed of a refusal.
+fn expect_refused(rt: &impl Abort, alloc: Global, refusal: Refusal, wanted: &str)
+    requires { RefusalHasScales refusal }
+{
     expect(rt, wanted, refused(alloc, refusal), &REFUSED, wanted);
 }
 
-/// Asks for the members that are printed of a fault of posting.
+// Asks for the members that are printed of a fault of posting.
 fn expect_fault(
     rt: &impl Abort,
     alloc: Global,
     fault: &PostFault,
     scale: Option<Scale>,
     wanted: &str,
-) {
+)
+    requires { HasMissingScale scale fault.now }
+{
     let refusal = Refusal::Rule {
         fault: *fault,
         scale,
@@ -87,7 +103,7 @@ fn expect_fault(
 }
 
 #[test]
-fn faults_of_posting_are_printed(rt: HostRuntime) {
+fn faults_of_posting_are_printed(rt: HostRuntime) -> Result<(), Fail> {
     let alloc = rt.alloc();
     let wanted = "\"code\":15,\"fault\":5,\"name\":\"Rule\"";
     expect_fault(&rt, alloc, &PostFault::TooManyRecords, None, wanted);
@@ -111,7 +127,9 @@ fn faults_of_posting_are_printed(rt: HostRuntime) {
     };
     let wanted = "\"code\":15,\"fault\":2,\"line\":2,\"missing\":\"0.001\",\"name\":\"Rule\",\
         \"rule\":1";
-    expect_fault(&rt, alloc, &shortage, Scale::new(3), wanted);
+    let scale = Scale::new(3).ok_or("no scale")?;
+    expect_fault(&rt, alloc, &shortage, Some(scale), wanted);
+    Ok(())
 }
 
 #[test]

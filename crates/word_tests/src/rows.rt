@@ -1,16 +1,16 @@
 //! How a row of a table is asked for.
 use std::process::Abort;
 
-/// What stands before and behind what a row tells.
+// What stands before and behind what a row tells.
 pub(crate) type Frame = [&'static str; 2];
 
-/// A row tells the whole text.
+// A row tells the whole text.
 pub(crate) const WHOLE: Frame = ["", ""];
 
-/// A row tells the members of a refusal.
+// A row tells the members of a refusal.
 pub(crate) const REFUSED: Frame = ["{\"refused\":{", "}}"];
 
-/// A row tells what stands between the number and the name of the refusal of a bad line.
+// A row tells what stands between the number and the name of the refusal of a bad line.
 pub(crate) const BAD_LINE: Frame = [
     "{\"refused\":{\"code\":1,\"kind\":",
     ",\"name\":\"BadLine\"}}",
@@ -23,7 +23,7 @@ fn is_framed(told: &str, frame: &Frame, wanted: &str) -> bool {
     }
 }
 
-/// Asks that this was told of a row, inside the frame; none was where memory is wanted.
+// Asks that this was told of a row, inside the frame; none was where memory is wanted.
 pub(crate) fn expect(
     rt: &impl Abort,
     row: &str,

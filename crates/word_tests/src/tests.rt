@@ -1,24 +1,29 @@
 //! Lines with the faults that a reader of the rules expects, and what requests keep of them.
+ghost use Rattle.desk_words.specs.ReplyTexts.{HasScales, RefusalHasScales};
+
 use crate::rows::{BAD_LINE, WHOLE, expect};
 use desk_words::{Manual, RecordText, Refusal, Reply, Request, SetText};
-use reg_base::{Cut, List, Mark, Text};
-use reg_io::Line;
+use reg_base::{Cut, Line, List, Mark, Text};
 use std::alloc::{AllocError, Global};
 use std::process::Abort;
 use std::test::Fail;
 
-/// What is printed of a reply; none where memory is wanted.
-pub(crate) fn line_of(alloc: Global, reply: &Reply) -> Option<String> {
+// What is printed of a reply; none where memory is wanted.
+pub(crate) fn line_of(alloc: Global, reply: &Reply) -> Option<String>
+    requires { HasScales reply.now }
+{
     let mut out = Vec::new(alloc);
     reply.print(alloc, &mut out).ok()?;
     String::from_utf8(out).ok()
 }
 
-pub(crate) fn refused(alloc: Global, refusal: Refusal) -> Option<String> {
+pub(crate) fn refused(alloc: Global, refusal: Refusal) -> Option<String>
+    requires { RefusalHasScales refusal }
+{
     line_of(alloc, &Reply::Refused(refusal))
 }
 
-/// What a user is told of a line: the reply to its fault, or that it is a request.
+// What a user is told of a line: the reply to its fault, or that it is a request.
 pub(crate) fn told_of(alloc: Global, line: &Line) -> Option<String> {
     match Request::read(alloc, line) {
         Ok(_) => String::from_str(alloc, "a request").ok(),
@@ -26,33 +31,33 @@ pub(crate) fn told_of(alloc: Global, line: &Line) -> Option<String> {
     }
 }
 
-/// What a user is told of the bytes of a line.
+// What a user is told of the bytes of a line.
 fn told(alloc: Global, bytes: &[u8]) -> Option<String> {
     let bytes = List::from_slice(alloc, bytes).ok()?;
     told_of(alloc, &Line::Text { bytes })
 }
 
-/// Asks for the refusal of each line, from what stands between its number and its name.
+// Asks for the refusal of each line, from what stands between its number and its name.
 fn expect_bad_lines(rt: &impl Abort, alloc: Global, rows: &[(&str, &str)]) {
     for (line, kind) in rows {
         expect(rt, line, told(alloc, line.as_bytes()), &BAD_LINE, kind);
     }
 }
 
-/// What is told of a line that stands behind a front, and in front of a brace.
+// What is told of a line that stands behind a front, and in front of a brace.
 fn told_behind(alloc: Global, front: &str, rest: &str) -> Option<String> {
     let line = format!(in alloc; "{front}{rest}}}").ok()?;
     told(alloc, line.as_bytes())
 }
 
-/// Asks for the same of lines with one front.
+// Asks for the same of lines with one front.
 fn expect_bad_behind(rt: &impl Abort, alloc: Global, front: &str, rows: &[(&str, &str)]) {
     for (rest, kind) in rows {
         expect(rt, rest, told_behind(alloc, front, rest), &BAD_LINE, kind);
     }
 }
 
-/// Lines, each with what is told of it.
+// Lines, each with what is told of it.
 const LINES: [(&str, &str); 17] = [
     ("", "2"),
     ("\r", "2"),
@@ -91,7 +96,7 @@ fn a_line_is_refused_by_its_first_fault(rt: HostRuntime) {
     expect(&rt, "no text", told(rt.alloc(), b"\xff"), &BAD_LINE, "2");
 }
 
-/// Arrays in arrays.
+// Arrays in arrays.
 fn nested(alloc: Global) -> Result<Vec<u8>, AllocError> {
     let mut deep = vec![in alloc; b'['; 200]?;
     deep.extend_from_slice(&[b']'; 200])?;
@@ -111,7 +116,7 @@ fn nesting_ends_at_a_depth(rt: HostRuntime) -> Result<(), Fail> {
     Ok(())
 }
 
-/// Members of a balance, each with what is told of it.
+// Members of a balance, each with what is told of it.
 const BALANCES: [(&str, &str); 12] = [
     (
         "\"register\":\"goods\",\"b\":1,\"a\":1",
@@ -157,7 +162,7 @@ fn a_member_of_a_balance_is_refused_by_name(rt: HostRuntime) {
     expect_bad_behind(&rt, rt.alloc(), front, &BALANCES);
 }
 
-/// Members of a manual document, each with what is told of it.
+// Members of a manual document, each with what is told of it.
 const MANUALS: [(&str, &str); 10] = [
     (
         "\"clerk\":\"a\",\"no\":0,\"date\":\"x\",\"sets\":[]",
@@ -206,7 +211,7 @@ fn a_member_of_a_manual_document_is_refused_by_name(rt: HostRuntime) {
     expect_bad_behind(&rt, rt.alloc(), "{\"op\":\"manual\",", &MANUALS);
 }
 
-/// What is told of a manual document with these sets.
+// What is told of a manual document with these sets.
 fn told_of_sets(alloc: Global, sets: &str) -> Option<String> {
     let line = format!(in alloc;
         "{{\"op\":\"manual\",\"clerk\":\"anna\",\"no\":4294967295,\
@@ -216,7 +221,7 @@ fn told_of_sets(alloc: Global, sets: &str) -> Option<String> {
     told(alloc, line.as_bytes())
 }
 
-/// Sets that are refused.
+// Sets that are refused.
 const WRONG_SETS: [&str; 13] = [
     "7",
     "{\"space\":\"goods\"}",
@@ -233,7 +238,7 @@ const WRONG_SETS: [&str; 13] = [
     "{\"space\":\"main\",\"records\":[{\"amount\":1,\"debit\":null,\"credit\":null}]}",
 ];
 
-/// Sets that are read.
+// Sets that are read.
 const SETS: [&str; 4] = [
     "",
     "{\"space\":\"goods\",\"records\":[]}",
@@ -260,7 +265,7 @@ fn sets_have_exactly_their_shape(rt: HostRuntime) {
     }
 }
 
-/// A manual document of one record.
+// A manual document of one record.
 const MANUAL: &[u8] = b"{\"clerk\":\"anna\",\"date\":\"2024-01-10T09:00:00\",\"no\":1,\
     \"op\":\"manual\",\"sets\":[{\"records\":[{\"kind\":\"receipt\",\
     \"sums\":[\"10.000\",\"50.00\"],\"values\":[\"nail\"]}],\"space\":\"goods\"}]}";
@@ -272,7 +277,7 @@ fn is_at(texts: &List<Text>, index: usize, wanted: &str) -> bool {
     }
 }
 
-/// Whether the set is that of the document.
+// Whether the set is that of the document.
 fn is_set(set: &SetText) -> bool {
     match set.records.get(0) {
         Some(RecordText::Register(given)) => {
@@ -285,7 +290,7 @@ fn is_set(set: &SetText) -> bool {
     }
 }
 
-/// Whether the document says what its line says.
+// Whether the document says what its line says.
 fn is_kept(manual: &Manual) -> bool {
     match manual.sets.get(0) {
         Some(set) => {
@@ -311,7 +316,7 @@ fn a_request_keeps_what_its_line_says(rt: HostRuntime) {
     assert!(rt; keeps(rt.alloc(), MANUAL));
 }
 
-/// Whether a line is a balance with this cut.
+// Whether a line is a balance with this cut.
 fn has_cut(alloc: Global, line: &[u8], wanted: &Option<Cut>) -> bool {
     match Request::read_text(alloc, line) {
         Ok(Request::Balance(balance)) => balance.cut == *wanted,

@@ -1,5 +1,5 @@
 use Rattle.std.proofs.Common.{sym, ◌∙◌}
-use Rattle.cfg_model.specs.Accounts.{account_of}
+use Rattle.cfg_model.specs.Accounts.{toml_account}
 use Rattle.cfg_model.proofs.Walks.{items-none, items-more}
 use Rattle.cfg_model.proofs.accounts.accounts_of.Goals as goal
 
@@ -9,7 +9,7 @@ returns-in_default c =
     let more = rw c.deref-item-items.ensures.value at c.items-test.true in
     let is = rw c.deref-item-items.ensures.value at c.item-item.is in
     let wrong = sym c.in_ok-account.ensures ∙ c.in_default.is in
-    sym (items-none account_of c.items.found.items items c.items.item-index _ more is wrong)
+    sym (items-none toml_account c.items.found.items items c.items.item-index _ more is wrong)
     ∙ c.items.invariant
 
 pub items-preserved : goal.items-preserved
@@ -18,6 +18,6 @@ items-preserved c =
     let more = rw c.deref-item-items.ensures.value at c.items-test.true in
     let is = rw c.deref-item-items.ensures.value at c.item-item.is in
     let right = sym c.in_ok-account.ensures ∙ c.in-Some.is in
-    items-more account_of c.items.found.items c.push.new.self.items items c.items.item-index _ _
+    items-more toml_account c.items.found.items c.push.new.self.items items c.items.item-index _ _
     more is right c.in_ok-push.ensures.items
     ∙ c.items.invariant

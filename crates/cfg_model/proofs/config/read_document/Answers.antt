@@ -4,12 +4,12 @@ use Rattle.std.specs.Str.{IsUtf8}
 use Rattle.std.proofs.lemmas.Bool.{eq-eqb}
 use Rattle.std.proofs.lemmas.Str.{utf8_valid_len-IsUtf8}
 use Rattle.toml.specs.Parse.{parse_document}
-use Rattle.cfg_model.specs.Reading.{document}
+use Rattle.cfg_model.specs.Reading.{toml_document}
 use Rattle.cfg_model.proofs.config.read_document.Goals as goal
 
-document-utf8 : (bytes : List ℕ) → IsUtf8 bytes → document bytes ≡ parse_document bytes
-unfolding document
-document-utf8 bytes utf8 =
+toml_document-utf8 : (bytes : List ℕ) → IsUtf8 bytes → toml_document bytes ≡ parse_document bytes
+unfolding toml_document
+toml_document-utf8 bytes utf8 =
     let same = eq-eqb (length bytes) (length bytes) refl in
     rw (utf8_valid_len-IsUtf8 bytes utf8, same) refl
 
@@ -17,4 +17,4 @@ pub returns-in-Ok-table_from_str : goal.returns-in-Ok-table_from_str
 returns-in-Ok-table_from_str c =
     let text_is = c.in-Ok.ensures.cases.0 in
     let read = rw text_is at c.in-Ok-table_from_str.ensures.ok in
-    rw (document-utf8 c.args.bytes.now c.in-Ok.ensures.cases.1, read) refl
+    rw (toml_document-utf8 c.args.bytes.now c.in-Ok.ensures.cases.1, read) refl

@@ -1,11 +1,11 @@
 use Rattle.std.proofs.Common.{sym, ◌∙◌}
-use Rattle.cfg_model.specs.Walk.{text_of}
+use Rattle.cfg_model.specs.Walk.{toml_text}
 use Rattle.cfg_model.proofs.Walks.{items-none, items-more}
 use Rattle.cfg_model.proofs.element.spelled.Goals as goal
 
 pub returns-in_default : goal.returns-in_default
 returns-in_default g c =
-    let shape = text_of g.E.Element.reads in
+    let shape = toml_text g.E.Element.reads in
     let items = c.args.array.now.items in
     let more = rw c.deref-item-items.ensures.value at c.items-test.true in
     let is = rw c.deref-item-items.ensures.value at c.item-item.is in
@@ -15,7 +15,7 @@ returns-in_default g c =
 
 pub items-preserved : goal.items-preserved
 items-preserved g c =
-    let shape = text_of g.E.Element.reads in
+    let shape = toml_text g.E.Element.reads in
     let items = c.args.array.now.items in
     let more = rw c.deref-item-items.ensures.value at c.items-test.true in
     let is = rw c.deref-item-items.ensures.value at c.item-item.is in

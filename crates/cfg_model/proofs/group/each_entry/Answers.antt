@@ -9,7 +9,8 @@ returns-in_err-read-clause-read g c =
     let reads = g.E.FromEntry.reads c.args.config.now in
     let all = each_entry reads (members_view c.args.entries.now.entries) in
     let told = entries-next reads c.entries.found.items c.entries.name-iterator
-    (c.in-Some.name.now, c.in-Some.value.now) c.next.new.self all c.entries.invariant.2 c.in-Some.ensures.steps in
+    (c.in-Some.name.now, c.in-Some.value.now) c.next.new.self all c.entries.invariant.2
+    c.in-Some.ensures.steps in
     search (rules, told)
 
 pub returns-clause-read : goal.returns-clause-read

@@ -4,5 +4,5 @@ use Rattle.cfg_model.proofs.parents.none_circular.Given as goal
 
 abbrev pub invariant-accounts : goal.invariant-accounts
 invariant-accounts l =
-    each_checked (not_circular l.accounts) (drop l.index l.accounts)
+    each_checked (not_circular l.accounts) (drop l.account-index l.accounts)
     ≡ each_checked (not_circular l.accounts) l.accounts

@@ -1,5 +1,5 @@
-use Rattle.std.proofs.Common.{◌≡◌, [], replicate}
+use Rattle.std.proofs.Common.{◌≡◌, [], map, take}
 use Rattle.desk_core.proofs.manual.empty_lists.Given as goal
 
-abbrev pub invariant-lists : goal.invariant-lists
-invariant-lists l = l.lists.items ≡ replicate l.counter []
+abbrev pub invariant-registers : goal.invariant-registers
+invariant-registers l = l.lists.items ≡ map (λ _. []) (take l.index l.registers)

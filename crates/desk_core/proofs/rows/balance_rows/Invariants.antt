@@ -6,4 +6,6 @@ use Rattle.desk_core.specs.Rows.{rows_of, AddsUp}
 use Rattle.desk_core.proofs.rows.balance_rows.Given as goal
 
 abbrev pub invariant-loop-document : goal.invariant-loop-document
-invariant-loop-document l = AddsUp l.resources (filter (λ b. inside l.cut (point_of b)) (flat_map (booked_by l.register) (take l.document-index l.documents))) (rows_of l.sums.entries)
+invariant-loop-document l =
+    AddsUp l.resources (filter (λ b. inside l.cut (point_of b))
+    (flat_map (booked_by l.register) (take l.document-index l.documents))) (rows_of l.sums.entries)

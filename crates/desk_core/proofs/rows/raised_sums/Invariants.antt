@@ -1,11 +1,11 @@
 use Rattle.std.proofs.Common.{◌≡◌, ℕ, ◌<◌, ◌+ℤ◌, map}
 use Rattle.std.specs.List.{range_with_len}
 use Rattle.reg_base.specs.Records.{amount_at}
-use Rattle.desk_core.specs.Rows.{sum_at, IsWithin}
+use Rattle.desk_core.specs.Rows.{sum_at, IsInReach}
 use Rattle.desk_core.proofs.rows.raised_sums.Given as goal
 
 abbrev pub invariant-loop-j : goal.invariant-loop-j
 invariant-loop-j l = record {
   value : l.raised.items ≡ map (λ j. amount_at j l.rec +ℤ sum_at l.sums j) (range_with_len 0 l.j);
-  small : (j : ℕ) → j < l.j → IsWithin 1 (amount_at j l.rec);
+  small : (j : ℕ) → j < l.j → IsInReach 1 (amount_at j l.rec);
 }

@@ -1,11 +1,12 @@
 use Rattle.std.proofs.Common.{◌≡◌, ◌≤◌, None}
 use Rattle.reg_io.specs.LineStates.{ahead}
-use Rattle.desk_run.specs.Steps.{IsRunning}
+use Rattle.desk_run.specs.AnsweredLines.{IsRunning}
 use Rattle.desk_run.proofs.run.answer_lines.Given as goal
 
 abbrev pub invariant-answered : goal.invariant-answered
 invariant-answered g l = record {
-  running : IsRunning l.fn.desk l.desk (ahead g.S.Device.left l.fn.lines) (ahead g.S.Device.left l.lines)
+  running : IsRunning l.fn.desk.desk l.desk.desk (ahead g.S.Device.left l.fn.lines)
+      (ahead g.S.Device.left l.lines)
       l.lines.room l.lines.ended (g.O.Device.taken l.fn.out) (g.O.Device.taken l.out);
   fault : l.lines.fault ≡ None;
   read_later : g.S.Device.read_faults l.fn.lines.source ≤ g.S.Device.read_faults l.lines.source;

@@ -5,4 +5,5 @@ use Rattle.desk_words.proofs.parsed.member.Goals as goal
 
 pub returns : goal.returns
 returns c =
-    view_of_ref _ ∙ ap (option_map view) c.get.ensures.value ∙ view-lookup c.args.name.now c.args.object.now.entries
+    view_of_ref _ ∙ ap (option_map view) c.get.ensures.value
+    ∙ view-lookup c.args.name.now c.args.object.now.entries

@@ -10,4 +10,5 @@ abbrev pub invariant-sums : goal.invariant-sums
 invariant-sums l =
     let scales = iter_rest (zip_first l.scale-iterator) in
     let sums = iter_rest (zip_second l.scale-iterator) in
-    map view l.texts.items ++ map string (sum_texts scales sums) ≡ map string (sum_texts l.scales l.sums)
+    map view l.texts.items ++ map string (sum_texts scales sums)
+    ≡ map string (sum_texts l.scales l.sums)

@@ -8,4 +8,5 @@ returns-in-Ok-clause-some c =
     let d = c.in-Ok.date in
     let same = c.in-Ok.ensures.value in
     let year : d.year ≡ pos c.args.day.year = omega (arith, ints) in
-    IsDayNumber-from_ymd c.args.day d.year d.month d.day c.days_since_min.result year (omega (arith, ints)) (omega (arith, ints)) d.month_in d.day_in c.days_since_min.ensures.value
+    IsDayNumber-from_ymd c.args.day d.year d.month d.day c.days_since_min.result year
+    (omega (arith, ints)) (omega (arith, ints)) d.month_in d.day_in c.days_since_min.ensures.value

@@ -6,4 +6,5 @@ pub returns : goal.returns
 returns c =
     let power = c.power_of_ten.ensures in
     c.saturating_mul.ensures
-    ∙ min-units _ _ _ _ c.args.zeros c.args.whole.now c.args.decimals.now c.read_on.ensures c.read_on-value.ensures power.value power.positive
+    ∙ min-units _ _ _ _ c.args.zeros c.args.whole.now c.args.decimals.now c.read_on.ensures
+    c.read_on-value.ensures power.value power.positive

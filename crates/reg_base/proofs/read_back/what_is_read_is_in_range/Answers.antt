@@ -1,5 +1,9 @@
-use Rattle.reg_base.proofs.RangeLemmas.{parse_date-within, parse_point-IsPoint, parse_cut-IsCut}
+use Rattle.reg_base.proofs.RangeLemmas.{parse_num-within, parse_date-within, parse_point-IsPoint}
+use Rattle.reg_base.proofs.RangeLemmas.{parse_cut-IsCut}
 use Rattle.reg_base.proofs.read_back.what_is_read_is_in_range.Goals as goal
+
+pub returns-clause-numbers : goal.returns-clause-numbers
+returns-clause-numbers c = parse_num-within
 
 pub returns-clause-dates : goal.returns-clause-dates
 returns-clause-dates c = parse_date-within

@@ -1,5 +1,5 @@
 use Rattle.std.proofs.Common.{◌≡◌, drop, None}
-use Rattle.cfg_model.proofs.Walks.{result_front}
+use Rattle.cfg_model.proofs.ForAbove.{result_front}
 use Rattle.rule_lang.specs.Rules.{statements_from}
 use Rattle.rule_lang.proofs.rules.statements_of_kind.Given as goal
 

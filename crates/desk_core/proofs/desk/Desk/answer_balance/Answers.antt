@@ -1,4 +1,5 @@
-use Rattle.std.proofs.Common.{◌≡◌, ℕ, None, List, map, filter, length, unwrap_or, ap, ◌∙◌, sym, subst, arith, Ok}
+use Rattle.std.proofs.Common.{◌≡◌, ℕ, None, List, map, filter, length, unwrap_or, ap, ◌∙◌, sym}
+use Rattle.std.proofs.Common.{subst, Ok}
 use Rattle.std.specs.List.{flat_map}
 use Rattle.reg_base.specs.declared.cut.Cut.{Cut}
 use Rattle.reg_base.specs.declared.cut.Cut.TheVariants.{Now}
@@ -9,26 +10,32 @@ use Rattle.reg_base.specs.Balances.{sum_rows}
 use Rattle.cfg_model.specs.declared.register.Resource.{Resource}
 use Rattle.reg_base.specs.declared.records.SumRow.{SumRow}
 use Rattle.desk_words.specs.declared.reply.Answer.TheVariants.{Balance as BalanceAnswer}
-use Rattle.desk_core.specs.Meanings.{look_balance}
-use Rattle.desk_core.specs.Serial.{read_answer}
-use Rattle.desk_core.specs.Opened.{Opened}
-use Rattle.desk_core.proofs.DeskLemmas.{read_answer-balance}
+use Rattle.desk_model.specs.Questions.{question_balance}
+use Rattle.desk_model.specs.Serial.{question_answer}
+use Rattle.desk_core.specs.DeskViews.{DeskView}
+use Rattle.desk_core.proofs.DeskLemmas.{question_answer-balance}
 use Rattle.desk_core.proofs.desk.Desk.answer_balance.Goals as goal
-
-pub balance_rows-requires-clause-few : goal.balance_rows-requires-clause-few
-balance_rows-requires-clause-few c = omega (arith, c.self.invariant.drawn, c.self.invariant.range)
 
 pub returns : goal.returns
 returns c =
     let register = c.in-Some-get.register.now in
     let shown : (n : ℕ) (cut : Cut) (documents : List Document) → List SumRow =
-    λ n cut documents. sum_rows n None (filter (λ b. inside cut (point_of b)) (flat_map (booked_by c.in-Some.place) documents)) in
-    let rows : c.in_ok-rows.rows ≡ shown (length register.resources) (unwrap_or c.args.balance.now.cut Now) c.self.inside.documents.items =
+    λ n cut documents. sum_rows n None
+    (filter (λ b. inside cut (point_of b)) (flat_map (booked_by c.in-Some.place) documents)) in
+    let rows : c.in_ok-rows.rows ≡ shown (length register.resources)
+    (unwrap_or c.args.balance.now.cut Now) c.self.inside.documents.items =
     c.in_ok-rows.ensures
-    ∙ (λ i. shown (length (c.as_slice-resources.ensures i)) (c.unwrap_or-cut.ensures i) (c.deref.ensures.value i)) in
+    ∙ (λ i. shown (length (c.as_slice-resources.ensures i)) (c.unwrap_or-cut.ensures i)
+    (c.deref.ensures.value i)) in
     let scales : c.in_ok-scales.scales ≡ map (λ (r : Resource). r.scale) register.resources =
     c.in_ok-scales.ensures ∙ ap (map (λ (r : Resource). r.scale)) c.as_slice-resources.ensures in
-    let answered = read_answer-balance (record { documents = c.self.inside.documents.items; top = c.self.inside.top }) c.self.inside.config c.args.balance.now c.in-Some.place register
-    (sym c.in-Some.ensures) (sym c.in-Some-get.ensures) c.if-not-register.false c.in_ok-rows.rows rows c.in_ok-scales.scales scales in
-    let P : Opened → Type 0 = λ o. Ok (BalanceAnswer c.in_ok-rows.rows c.in_ok-scales.scales) ≡ read_answer o.desk.serial (look_balance o.setting.config c.args.balance.now) in
-    subst P c.self.view_is answered
+    let answered = question_answer-balance
+    (record { documents = c.self.inside.documents.items; top = c.self.inside.top })
+    c.self.inside.config c.args.balance.now c.in-Some.place register
+    (sym c.in-Some.ensures) (sym c.in-Some-get.ensures) c.if-not-register.false c.in_ok-rows.rows
+    rows c.in_ok-scales.scales scales in
+    let P : DeskView → Type 0 =
+    λ o. question_answer o.desk.serial
+    (question_balance o.desk.setting.config c.args.balance.now) ≡ Ok
+    (BalanceAnswer c.in_ok-rows.rows c.in_ok-scales.scales) in
+    subst P c.self.view_is (sym answered)

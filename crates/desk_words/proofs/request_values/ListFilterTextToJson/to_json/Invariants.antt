@@ -6,4 +6,5 @@ use Rattle.desk_words.proofs.request_values.ListFilterTextToJson.to_json.Given a
 
 abbrev pub invariant-filters : goal.invariant-filters
 invariant-filters l =
-    put_filters (members_view l.members.entries) (drop l.filter-index l.filter-items) ≡ put_filters no_members l.filter-items
+    put_filters (members_view l.members.entries) (drop l.filter-index l.filter-items)
+    ≡ put_filters no_members l.filter-items

@@ -1,4 +1,5 @@
-use Rattle.std.proofs.Common.{ℕ, ◌≤◌, List, ◌++◌, length, drop, replicate, arith, ◌∙◌, length-append, length-drop}
+use Rattle.std.proofs.Common.{ℕ, ◌≤◌, List, ◌++◌, length, drop, replicate, arith, ◌∙◌}
+use Rattle.std.proofs.Common.{length-append, length-drop}
 use Rattle.std.proofs.lemmas.List.{drop-replicate, length-replicate}
 use Rattle.std.proofs.Math.Seq.{take-append_seam, drop-append_seam}
 use Rattle.std.specs.Str.{IsAscii}
@@ -21,4 +22,5 @@ IsShortText-padded text short ascii = record {
 pub invariant_of-result : goal.invariant_of-result
 invariant_of-result c =
     rw c.copy_from_slice.ensures.after
-    (rw c.as_bytes.ensures.value (IsShortText-padded c.args.text.now c.requires.short c.requires.ascii))
+    (rw c.as_bytes.ensures.value
+    (IsShortText-padded c.args.text.now c.requires.short c.requires.ascii))

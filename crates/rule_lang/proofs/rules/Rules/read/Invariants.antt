@@ -1,5 +1,5 @@
 use Rattle.std.proofs.Common.{◌≡◌, drop}
-use Rattle.cfg_model.proofs.Walks.{result_front}
+use Rattle.cfg_model.proofs.ForAbove.{result_front}
 use Rattle.rule_lang.specs.Rules.{each_kind}
 use Rattle.rule_lang.proofs.rules.Rules.read.Given as goal
 

@@ -1,0 +1,84 @@
+-- The desk machine: one request in, one reply out, the desk after.
+use Rattle.std.specs.Prelude.{ℕ, ◌+◌, Bool, true, false, nat_lt, if◌then◌else◌, List, [], ◌∷◌}
+use Rattle.std.specs.Prelude.{Result, Ok, Err}
+use Rattle.reg_base.specs.Results.{unless}
+use Rattle.desk_words.specs.declared.request.Request.{Request}
+use Rattle.desk_words.specs.declared.reply.Reply.{Reply}
+use Rattle.desk_words.specs.declared.reply.Reply.TheVariants.{Done, Refused}
+use Rattle.desk_words.specs.declared.reply.Refusal.TheVariants.{Limit}
+use Rattle.desk_words.specs.declared.reply.Limit.TheVariants.{Numbers}
+use Rattle.desk_model.specs.State.{State, Desk, Command}
+use Rattle.desk_model.specs.Plans.{Deed, changes, asks_register, Meaning}
+use Rattle.desk_model.specs.Meanings.{meaning_of}
+use Rattle.desk_model.specs.Effects.{Effect, Stop, refuses, Tests}
+use Rattle.desk_model.specs.Serial.{effect_of}
+
+-- the greatest document number
+abbrev pub greatest_number : ℕ
+greatest_number = 4_294_967_295
+
+-- a number is left to be drawn, where one is
+abbrev pub number_is_left : State → Bool → Bool
+number_is_left state true = nat_lt state.top greatest_number
+number_is_left state false = true
+
+-- the number that is drawn next, and 0 where none is left
+abbrev pub next_number : State → ℕ
+next_number state = if nat_lt state.top greatest_number then state.top + 1 else 0
+
+-- what a desk asks besides the request itself: its limits, behind the plan
+abbrev pub tests_of : Desk → Meaning → Tests
+tests_of desk meaning = record {
+  plan = λ plan. unless (number_is_left desk.serial meaning.draws) (Limit Numbers greatest_number);
+}
+
+-- what a request means at a desk
+abbrev pub meaning_at : Desk → Request → Meaning
+meaning_at desk request = meaning_of desk.setting.config request
+
+-- a request with the number that is drawn for its document: the next one where it draws, and else 0
+abbrev pub command_at : Desk → Request → Command
+command_at desk request = record {
+  number = if (meaning_at desk request).draws then next_number desk.serial else 0;
+  request = request;
+}
+
+-- the effect of a request at a desk, or why it goes no further
+abbrev pub effect_at : Desk → Request → Result Effect Stop
+effect_at desk request = effect_of (tests_of desk (meaning_at desk request)) desk.setting
+    desk.serial (command_at desk request)
+
+-- what one request comes to: its reply, the desk after, and the commands that it commits
+pub record Event : Type 0 where
+  pub reply : Reply
+  pub desk : Desk
+  pub commits : List (List Command)
+
+-- the commands that a deed commits: a change is an entry of its own
+abbrev pub commits_of : Deed → Command → List (List Command)
+commits_of (changes change) command = (command ∷ []) ∷ []
+commits_of (asks_register question) command = []
+
+-- the reply where a request goes no further
+abbrev pub reply_at : Stop → Reply
+reply_at (refuses refusal) = Refused refusal
+
+-- an accepted request leaves its effect, and any other one leaves the desk as it is
+abbrev pub event_of : Desk → Deed → Command → Result Effect Stop → Event
+event_of desk deed command (Ok effect) = record {
+  reply = Done effect.answer;
+  desk = record desk {
+    serial = effect.state;
+  };
+  commits = commits_of deed command;
+}
+event_of desk deed command (Err stop) = record {
+  reply = reply_at stop;
+  desk = desk;
+  commits = [];
+}
+
+-- one request
+unfoldable pub step : Desk → Request → Event
+step desk request = event_of desk (meaning_at desk request).deed (command_at desk request)
+    (effect_at desk request)

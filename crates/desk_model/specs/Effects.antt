@@ -1,0 +1,70 @@
+-- What an accepted request leaves, and why another goes no further.
+use Rattle.std.specs.Prelude.{ℕ, max, Option, Some, None, List, [], ◌∷◌, Result, Ok, Err}
+use Rattle.reg_base.specs.declared.records.Doc.{Doc}
+use Rattle.reg_base.specs.declared.records.Document.{Document}
+use Rattle.desk_words.specs.declared.reply.Answer.{Answer}
+use Rattle.desk_words.specs.declared.reply.Answer.TheVariants.{Document as DocumentAnswer}
+use Rattle.desk_words.specs.declared.reply.Refusal.{Refusal}
+use Rattle.desk_model.specs.State.{State}
+use Rattle.desk_model.specs.Documents.{with_document, without_document}
+use Rattle.desk_model.specs.declared.plan.Source.{Source}
+use Rattle.desk_model.specs.declared.plan.Source.TheVariants.{ByHand}
+use Rattle.desk_model.specs.declared.plan.Plan.{Plan}
+
+-- what a change does to one document: how it was and how it is, none where it is not there
+pub record Work : Type 0 where
+  pub before : Option Document
+  pub after : Option Document
+
+-- what an accepted request leaves: the state after, what it did to documents, and its answer
+pub record Effect : Type 0 where
+  pub state : State
+  pub works : List Work
+  pub answer : Answer
+
+-- why a request goes no further
+pub data Stop : Type 0 where
+  refuses : Refusal → Stop
+
+-- what a machine asks besides the request itself, and where: a plan that was made, before its
+-- records are
+pub record Tests : Type 0 where
+  pub plan : Plan → Result (Unit {0}) Refusal
+
+-- no tests
+abbrev pub no_tests : Tests
+no_tests = record {
+  plan = λ plan. Ok tt;
+}
+
+-- a part of a request's way, which stops where it is refused
+abbrev pub or_stop : {X : Type 0} → Result X Refusal → Result X Stop
+or_stop (Ok x) = Ok x
+or_stop (Err refusal) = Err (refuses refusal)
+
+-- ---- effects of changes
+
+-- the documents with a work done: one takes the place of its number, or its number's is taken away
+abbrev pub documents_with : Option Document → Option Document → List Document → List Document
+documents_with before (Some after) documents = with_document after documents
+documents_with (Some before) None documents = without_document before.doc.number documents
+documents_with None None documents = documents
+
+-- the state with a work done under a command's number
+abbrev pub state_with : State → ℕ → Work → State
+state_with state number work = record state {
+  documents = documents_with work.before work.after state.documents;
+  top = max state.top number;
+}
+
+-- how a changed document stands, as its change answers
+abbrev pub answer_of : Doc → Source → Answer
+answer_of doc (ByHand given) = DocumentAnswer doc.active doc.number doc.state
+
+-- what a change leaves: the state with its work, and how its document stands
+abbrev pub effect_with : State → ℕ → Plan → Work → Effect
+effect_with state number plan work = record {
+  state = state_with state number work;
+  works = work ∷ [];
+  answer = answer_of plan.doc plan.source;
+}

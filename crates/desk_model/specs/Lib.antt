@@ -1,0 +1,12 @@
+pub mod Answers
+pub mod Desk
+pub mod Documents
+pub mod Effects
+pub mod Laws
+pub mod Manuals
+pub mod Meanings
+pub mod Plans
+pub mod Questions
+pub mod RecordSets
+pub mod Serial
+pub mod State

@@ -1,0 +1,122 @@
+-- What a command does to the serial state, and the serial machine.
+use Rattle.std.specs.Prelude.{ℕ, ◌==◌, Bool, true, false, ◌||◌, ◌&&◌, codes, nat_lt, Option}
+use Rattle.std.specs.Prelude.{Some, is_some, is_none, option_and_then, List, [], Result}
+use Rattle.std.specs.Prelude.{Ok, Err}
+use Rattle.std.specs.Str.{bytes_eq}
+use Rattle.reg_base.specs.declared.records.Doc.{Doc}
+use Rattle.reg_base.specs.declared.records.Document.{Document}
+use Rattle.reg_base.specs.Results.{◌>>=◌, unless}
+use Rattle.reg_base.specs.Records.{records_of, chosen_records}
+use Rattle.cfg_model.specs.declared.config.Config.{Config}
+use Rattle.cfg_model.specs.Places.{clerk_place}
+use Rattle.desk_words.specs.declared.reply.Answer.{Answer}
+use Rattle.desk_words.specs.declared.reply.Refusal.{Refusal}
+use Rattle.desk_words.specs.declared.reply.Refusal.TheVariants.{UnknownClerk}
+use Rattle.desk_model.specs.State.{Setting, State, Command}
+use Rattle.desk_model.specs.Documents.{document_at}
+use Rattle.desk_model.specs.Effects.{Effect, Stop, refuses, Tests, no_tests, or_stop}
+use Rattle.desk_model.specs.Effects.{effect_with}
+use Rattle.desk_model.specs.declared.plan.Source.{Source}
+use Rattle.desk_model.specs.declared.plan.Source.TheVariants.{ByHand}
+use Rattle.desk_model.specs.declared.plan.Plan.{Plan}
+use Rattle.desk_model.specs.Plans.{Sight, Change, Question, Deed, changes, asks_register}
+use Rattle.desk_model.specs.RecordSets.{record_sets}
+use Rattle.desk_model.specs.Meanings.{meaning_of}
+
+-- ---- clerks
+
+-- whether a name is that of the clerk that is built in
+abbrev pub is_batch : List ℕ → Bool
+is_batch name = bytes_eq name (codes "batch")
+
+-- whether there is such a clerk: the configuration has it, or it is built in
+abbrev pub is_clerk : Config → List ℕ → Bool
+is_clerk config name = is_batch name || is_some (clerk_place name config.clerks)
+
+-- ---- changes of documents
+
+-- what a change sees of a state
+abbrev pub sight_of : State → ℕ → Change → Sight
+sight_of state number change = record {
+  before = option_and_then (λ n. document_at n state.documents) change.doc;
+  drawn = number;
+}
+
+-- the document that a plan leaves, with its records
+abbrev pub document_from : Setting → State → Doc → Source → Result (Option Document) Refusal
+document_from setting state doc (ByHand given) =
+    record_sets setting.config doc.date given >>= λ sets. Ok (Some (record {
+      doc = doc;
+      sets = sets;
+    }))
+
+-- the effect of a plan, or its first refusal: the machine's tests are made, and then its records
+unfoldable pub plan_effect : Tests → Setting → State → ℕ → Sight → Plan → Result Effect Refusal
+plan_effect tests setting state number sight plan = do
+  _ ← tests.plan plan
+  after ← document_from setting state plan.doc plan.source
+  Ok (effect_with state number plan (record {
+    before = sight.before;
+    after = after;
+  }))
+
+-- the effect of a change, or its first refusal
+unfoldable pub change_effect : Tests → Setting → State → ℕ → Change → Result Effect Refusal
+change_effect tests setting state number change = do
+  plan ← change.plan (sight_of state number change)
+  plan_effect tests setting state number (sight_of state number change) plan
+
+-- ---- questions
+
+-- what a question is answered, from the records that it asks for
+unfoldable pub question_answer : State → Result Question Refusal → Result Answer Refusal
+question_answer state question = do
+  q ← question
+  Ok (q.answer (chosen_records q.asked (records_of q.register state.documents)))
+
+-- the effect of a question: nothing changes
+unfoldable pub question_effect : State → Result Question Refusal → Result Effect Refusal
+question_effect state question = do
+  answer ← question_answer state question
+  Ok (record {
+    state = state;
+    works = [];
+    answer = answer;
+  })
+
+-- ---- commands
+
+-- the effect of a deed
+abbrev pub deed_effect : Tests → Setting → State → ℕ → Deed → Result Effect Refusal
+deed_effect tests setting state number (changes change) =
+    change_effect tests setting state number change
+deed_effect tests setting state number (asks_register question) = question_effect state question
+
+-- the effect of a command, or why it goes no further: there is such a clerk, and then its deed
+unfoldable pub effect_of : Tests → Setting → State → Command → Result Effect Stop
+effect_of tests setting state command = do
+  let meaning = meaning_of setting.config command.request
+  _ ← unless (is_clerk setting.config meaning.clerk) (refuses UnknownClerk)
+  or_stop (deed_effect tests setting state command.number meaning.deed)
+
+-- why the serial machine takes no command: it stops, or its number is none that can be drawn
+pub data SerialFault : Type 0 where
+  stops : Stop → SerialFault
+  bad_number : SerialFault
+
+-- whether a command has a number of its own exactly where its request draws one
+abbrev pub is_drawn : State → Bool → ℕ → Bool
+is_drawn state true number = nat_lt 0 number && is_none (document_at number state.documents)
+is_drawn state false number = number == 0
+
+-- the effect of a command, or why the serial machine does not take it
+abbrev pub or_fault : Result Effect Stop → Result Effect SerialFault
+or_fault (Ok effect) = Ok effect
+or_fault (Err stop) = Err (stops stop)
+
+-- the serial machine: one command, as a replay runs it, with no tests but those of the request
+unfoldable pub serial : Setting → State → Command → Result Effect SerialFault
+serial setting state command = do
+  let meaning = meaning_of setting.config command.request
+  _ ← unless (is_drawn state meaning.draws command.number) bad_number
+  or_fault (effect_of no_tests setting state command)

@@ -1,0 +1,39 @@
+-- What a desk knows: its setting, and what is committed.
+use Rattle.std.specs.Prelude.{ℕ, List, []}
+use Rattle.reg_base.specs.declared.records.Document.{Document}
+use Rattle.cfg_model.specs.declared.config.Config.{Config}
+use Rattle.desk_words.specs.declared.request.Request.{Request}
+
+-- what a desk is set up with
+pub record Setting : Type 0 where
+  pub config : Config
+
+-- the serial state: the documents in order of number, and the greatest number that was ever
+-- committed
+pub record State : Type 0 where
+  pub documents : List Document
+  pub top : ℕ
+
+-- a desk: its setting, and the serial state that is committed
+pub record Desk : Type 0 where
+  pub setting : Setting
+  pub serial : State
+
+-- a request with the number that was drawn for its document, or 0
+pub record Command : Type 0 where
+  pub number : ℕ
+  pub request : Request
+
+-- no document was made yet
+abbrev pub first_state : State
+first_state = record {
+  documents = [];
+  top = 0;
+}
+
+-- a desk as it is opened
+abbrev pub first_desk : Setting → Desk
+first_desk setting = record {
+  setting = setting;
+  serial = first_state;
+}

@@ -1,0 +1,21 @@
+//! The desk machine as definitions and laws: what a request means, what it does, what is replied.
+//!
+//! Means: `step` in `specs/Desk.antt` says what a desk replies to a request and what it is after;
+//! `serial` in `specs/Serial.antt` runs a command with its document number, as a replay does;
+//! `answers_to` in `specs/Answers.antt` says what is written for the lines of an input.
+//!
+//! Stands on: `cfg_model` for the configuration, `desk_words` for requests and replies,
+//! `reg_base` for documents, records and balances.
+//!
+//! Promises: the laws of `specs/Laws.antt`, each the contract of a function that does nothing.
+//!
+//! Leaves open: how a desk keeps its documents; there is no other code here than plain types.
+#![tactic(auto)]
+
+mod laws;
+mod plan;
+
+pub use laws::{
+    accepted_requests_replay, balances_are_sums, refusals_change_nothing, replies_have_scales,
+};
+pub use plan::{Given, Plan, Source};

@@ -1,0 +1,6 @@
+use Rattle.std.proofs.Common.{arith, ◌∙◌}
+use Rattle.reg_base.proofs.ForAbove.{decimal-number_text}
+use Rattle.desk_run.proofs.complaint.digits.Goals as goal
+
+pub returns : goal.returns
+returns c = c.format.ensures.text ∙ decimal-number_text c.args.number (omega arith)

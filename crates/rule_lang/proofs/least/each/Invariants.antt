@@ -1,9 +1,0 @@
-use Rattle.std.proofs.Common.{◌≡◌, drop}
-use Rattle.rule_lang.specs.Least.{each}
-use Rattle.rule_lang.proofs.LeastLemmas.{settled}
-use Rattle.rule_lang.proofs.least.each.Given as goal
-
-abbrev pub invariant-items : goal.invariant-items
-invariant-items g l =
-    settled l.found.items l.against (each (g.K.Check.checks l.context) (drop l.item-index l.items))
-    ≡ each (g.K.Check.checks l.context) l.items
