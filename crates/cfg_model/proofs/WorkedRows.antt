@@ -11,7 +11,7 @@ use Rattle.cfg_model.specs.declared.register.Register.{Register}
 use Rattle.cfg_model.specs.declared.kind.Kind.{Kind}
 use Rattle.cfg_model.specs.declared.account.Account.{Account}
 use Rattle.cfg_model.specs.declared.account.Nature.TheVariants.{Active}
-use Rattle.cfg_model.specs.declared.clerk.Right.TheVariants.{Manual, Read}
+use Rattle.reg_base.specs.declared.right.Right.TheVariants.{Manual, Read}
 use Rattle.cfg_model.specs.declared.fault.CfgFault.TheVariants.{NotToml, Field, Twice, Unknown}
 use Rattle.cfg_model.specs.declared.fault.CfgFault.TheVariants.{Count}
 use Rattle.reg_base.specs.declared.fault.EntryFault.TheVariants.{UnknownAccount, GroupAccount}
@@ -19,7 +19,7 @@ use Rattle.reg_base.specs.declared.fault.EntryFault.TheVariants.{ExtraCount, Sid
 use Rattle.cfg_model.specs.Elements.{toml_dimension, toml_lot, toml_scale, toml_resource}
 use Rattle.cfg_model.specs.Elements.{toml_field}
 use Rattle.cfg_model.specs.Elements.{toml_field_scale, toml_account_name, toml_nature, toml_right}
-use Rattle.cfg_model.specs.Elements.{right_word}
+use Rattle.reg_base.specs.Rights.{right_word}
 use Rattle.cfg_model.specs.FaultTexts.{config_fault_text}
 use Rattle.cfg_model.specs.Walk.{group_entries, each_entry, read_group, entry_keys, all_known}
 use Rattle.cfg_model.specs.Registers.{read_register, keeps_balances, read_balance, read_dimensions}

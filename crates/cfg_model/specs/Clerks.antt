@@ -1,13 +1,14 @@
 -- The clerk that an entry holds, or its first fault.
 use Rattle.std.specs.Prelude.{ℕ, codes, false, List, [], Result, Ok}
 use Rattle.toml.specs.Data.{Data, Members}
+use Rattle.reg_base.specs.declared.right.Right.{Right}
 use Rattle.reg_base.specs.Results.{◌>>=◌, some_or}
+use Rattle.reg_base.specs.Rights.{right_word}
 use Rattle.cfg_model.specs.declared.clerk.Clerk.{Clerk}
-use Rattle.cfg_model.specs.declared.clerk.Right.{Right}
 use Rattle.cfg_model.specs.declared.fault.CfgFault.{CfgFault}
 use Rattle.cfg_model.specs.declared.fault.CfgFault.TheVariants.{Field}
 use Rattle.cfg_model.specs.Words.{key_path, clerk_keys}
-use Rattle.cfg_model.specs.Elements.{toml_right, right_word}
+use Rattle.cfg_model.specs.Elements.{toml_right}
 use Rattle.cfg_model.specs.Walk.{entry_keys, of_shape, toml_texts, distinct}
 
 -- the rights of a clerk: the right shape, then none twice

@@ -10,8 +10,8 @@ use Rattle.cfg_model.specs.declared.register.Resource.{Resource}
 use Rattle.cfg_model.specs.declared.kind.Field.{Field}
 use Rattle.cfg_model.specs.declared.account.Nature.{Nature}
 use Rattle.cfg_model.specs.declared.account.Nature.TheVariants.{Active, Passive, Both}
-use Rattle.cfg_model.specs.declared.clerk.Right.{Right}
-use Rattle.cfg_model.specs.declared.clerk.Right.TheVariants.{Write, Post, Manual, Read, Lock, Admin}
+use Rattle.reg_base.specs.declared.right.Right.{Right}
+use Rattle.reg_base.specs.declared.right.Right.TheVariants.{Write, Post, Manual, Read, Lock, Admin}
 
 -- what stands before and after the first colon, whose byte is 58
 abbrev pub at_colon : List ℕ → Option (List ℕ × List ℕ)
@@ -89,15 +89,6 @@ toml_nature word =
     else if bytes_eq word (codes "passive") then Some Passive
     else if bytes_eq word (codes "both") then Some Both
     else None
-
--- the word of a right
-unfoldable pub right_word : Right → List ℕ
-right_word Write = codes "write"
-right_word Post = codes "post"
-right_word Manual = codes "manual"
-right_word Read = codes "read"
-right_word Lock = codes "lock"
-right_word Admin = codes "admin"
 
 -- the right that a word names
 unfoldable pub toml_right : List ℕ → Option Right

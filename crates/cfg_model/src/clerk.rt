@@ -2,15 +2,16 @@
 ghost use Rattle.std.specs.Prelude.{◌≡◌, codes, false};
 ghost use Rattle.toml.specs.View.{view, table_view};
 ghost use Rattle.reg_base.specs.Results.{Gives};
+ghost use Rattle.reg_base.specs.Rights.{right_word};
 ghost use Rattle.cfg_model.specs.declared.fault.CfgFault.TheVariants.{Memory};
-ghost use Rattle.cfg_model.specs.Elements.{toml_right, right_word};
+ghost use Rattle.cfg_model.specs.Elements.{toml_right};
 ghost use Rattle.cfg_model.specs.Clerks.{read_clerk, read_rights};
 
 use crate::element::{Element, all_distinct};
 use crate::group::FromEntry;
 use crate::walk::{Entry, entry_keys};
 use crate::{CfgFault, Config};
-use reg_base::{List, Name};
+use reg_base::{List, Name, Right};
 use std::alloc::Global;
 use toml::Value;
 
@@ -19,34 +20,6 @@ use toml::Value;
 pub struct Clerk {
     pub name: Name,
     pub rights: List<Right>,
-}
-
-/// What a clerk may be allowed to do.
-#[derive(Clone, Copy, PartialEq, Eq, Debug)]
-pub enum Right {
-    Write,
-    Post,
-    Manual,
-    Read,
-    Lock,
-    Admin,
-}
-
-impl Right {
-    /// The word of the right, as a configuration writes it.
-    #[tactic(auto, unfolding(crate::specs::Elements::right_word))]
-    pub fn word(self) -> &'static str
-        ensures { result.now ≡ right_word self }
-    {
-        match self {
-            Right::Write => "write",
-            Right::Post => "post",
-            Right::Manual => "manual",
-            Right::Read => "read",
-            Right::Lock => "lock",
-            Right::Admin => "admin",
-        }
-    }
 }
 
 impl Element for Right {

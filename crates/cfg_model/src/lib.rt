@@ -28,7 +28,7 @@ mod walk;
 
 pub use account::{Account, Nature};
 pub use accounts::{ACCOUNT_LIMIT, EXTRA_LIMIT};
-pub use clerk::{Clerk, Right};
+pub use clerk::Clerk;
 pub use config::{
     CLERK_LIMIT, Config, DOCUMENT_LIMIT, LEDGER_LIMIT, REGISTER_LIMIT, SEQUENCE_LIMIT,
 };
@@ -37,6 +37,6 @@ pub use fault::CfgFault;
 pub use kind::{FIELD_LIMIT, Field, Kind};
 pub use laws::table_keys_ascend;
 pub use ledger::Chart;
-pub use reg_base::EntryFault;
+pub use reg_base::{EntryFault, Right};
 pub use register::{DIMENSION_LIMIT, Dimension, RESOURCE_LIMIT, Register, Resource};
 pub use sequence::Sequence;

@@ -24,7 +24,7 @@ use Rattle.cfg_model.specs.Places.{register_place}
 use Rattle.desk_words.specs.declared.request.Balance.{Balance as BalanceRequest}
 use Rattle.desk_words.specs.declared.reply.Answer.TheVariants.{Balance as BalanceAnswer}
 use Rattle.desk_model.specs.State.{State}
-use Rattle.desk_model.specs.Documents.{with_document}
+use Rattle.reg_base.specs.Documents.{with_document}
 use Rattle.desk_model.specs.Questions.{everything, question_balance}
 use Rattle.desk_model.specs.Serial.{question_answer}
 

@@ -1,4 +1,5 @@
 pub mod DeskLemmas
+pub mod LastLemmas
 pub mod LineLemmas
 pub mod PartLemmas
 pub mod PlanLemmas

@@ -22,7 +22,7 @@ AnswersLine-blank desk line blank = record {
 -- another line is answered by the text that was prepared, whose document is committed
 pub AnswersLine-prepared : (desk : Desk) (line : Line) (prepared : Prepared) (new : Desk) →
     is_blank_line line ≡ false → Prepares desk (line_event desk line) prepared →
-    new ≡ desk_with desk prepared.document → AnswersLine desk line (Some prepared.text) new
+    new ≡ desk_with desk prepared.entry → AnswersLine desk line (Some prepared.text) new
 unfolding line_answer line_desk
 AnswersLine-prepared desk line prepared new not_blank prepares committed = record {
   text = prepares.text_is ∙ ap (λ b. cond b [] (reply_text (line_event desk line).reply ++ 10 ∷ []))

@@ -1,11 +1,10 @@
 -- What a change of documents comes to, and that its document may be committed.
 use Rattle.std.proofs.Common.{◌≡◌, ℕ, ◌+◌, ◌<◌, ◌≤◌, Bool, true, false, cond, max, nat_le, nat_lt}
 use Rattle.std.proofs.Common.{Option, Some, None, is_none, List, [], ◌∷◌, ◌++◌, map, filter, length}
-use Rattle.std.proofs.Common.{length-append, get_or, All, Vec, Result, Ok, Err, IfOk, refl, ap, ◌∙◌}
+use Rattle.std.proofs.Common.{length-append, get_or, All, Result, Ok, Err, IfOk, refl, ap, ◌∙◌}
 use Rattle.std.proofs.Common.{sym, subst, arith, suc}
 use Rattle.std.specs.List.Sorted.{IsStrictlyIncreasing}
 use Rattle.std.specs.Option.{ForSome}
-use Rattle.std.specs.declared.alloc.Global.{Global}
 use Rattle.std.proofs.Math.Seq.{get_or-append_seam}
 use Rattle.std.proofs.lemmas.Bool.Decides.{nat_tests}
 use Rattle.std.proofs.lemmas.List.{get_or_append_left, map-append}
@@ -17,36 +16,45 @@ use Rattle.reg_base.specs.declared.records.Document.{Document}
 use Rattle.reg_base.specs.Results.{◌>>=◌, unless, each}
 use Rattle.cfg_model.specs.declared.config.Config.{Config}
 use Rattle.desk_words.specs.declared.request.Request.{Request}
-use Rattle.desk_words.specs.declared.request.Request.TheVariants.{Manual, Balance}
 use Rattle.desk_words.specs.declared.request.Manual.{Manual as ManualRequest}
 use Rattle.desk_words.specs.declared.reply.Reply.{Reply}
 use Rattle.desk_words.specs.declared.reply.Refusal.{Refusal}
-use Rattle.desk_words.specs.declared.reply.Refusal.TheVariants.{UnknownClerk, Limit, Rule}
+use Rattle.desk_words.specs.declared.reply.Refusal.TheVariants.{Limit, Rule}
 use Rattle.reg_base.specs.declared.fault.PostFault.TheVariants.{TooManyRecords}
 use Rattle.desk_words.specs.declared.reply.Limit.TheVariants.{Numbers}
-use Rattle.desk_words.specs.WellFormed.{IsRequest}
 use Rattle.desk_words.specs.ReplyTexts.{reply_text}
 use Rattle.desk_model.specs.declared.plan.Given.{Given}
 use Rattle.desk_model.specs.declared.plan.Source.{Source}
 use Rattle.desk_model.specs.declared.plan.Source.TheVariants.{ByHand}
 use Rattle.desk_model.specs.declared.plan.Plan.{Plan}
-use Rattle.desk_model.specs.State.{Setting, State, Desk, Command}
-use Rattle.desk_model.specs.Documents.{with_document}
-use Rattle.desk_model.specs.Plans.{Sight, Change, Deed, Meaning}
+use Rattle.desk_model.specs.State.{Setting, State, Desk}
+use Rattle.reg_base.specs.Documents.{with_document}
+use Rattle.desk_model.specs.Plans.{Sight, Change, Meaning}
 use Rattle.desk_model.specs.Manuals.{given_sets, manual_doc, plan_manual}
 use Rattle.desk_model.specs.RecordSets.{record_set, record_sets, is_made, with_lines}
-use Rattle.desk_model.specs.Questions.{question_balance}
-use Rattle.desk_model.specs.Effects.{Effect, Stop, refuses, Tests, or_stop}
+use Rattle.desk_model.specs.Effects.{Effect, Tests}
+use Rattle.desk_model.specs.Stops.{Stop, or_stop}
 use Rattle.desk_model.specs.Serial.{document_from}
-use Rattle.desk_model.specs.Effects.{effect_with}
-use Rattle.desk_model.specs.Serial.{plan_effect, change_effect, question_answer}
-use Rattle.desk_model.specs.Serial.{question_effect, deed_effect, effect_of, is_clerk}
+use Rattle.desk_model.specs.Effects.{effect_with, acknowledgement_of}
+use Rattle.desk_model.specs.Serial.{plan_effect, change_effect}
 use Rattle.desk_model.specs.Desk.{meaning_at, command_at, effect_at, tests_of, next_number}
-use Rattle.desk_model.specs.Desk.{number_is_left, greatest_number, event_of, step}
-use Rattle.desk_core.specs.declared.outcome.Outcome.{Outcome}
+use Rattle.desk_model.specs.Desk.{Event, number_is_left, greatest_number, event_of, step}
+use Rattle.desk_model.specs.declared.last.Last.{Last}
+use Rattle.desk_model.specs.LastRequests.{lasts_with}
+use Rattle.desk_words.specs.RequestTexts.{request_text}
+use Rattle.desk_words.specs.declared.reply.Answer.{Answer}
+use Rattle.desk_words.specs.declared.reply.Answer.TheVariants.{Acknowledged, Balance, Shown}
+use Rattle.desk_words.specs.declared.reply.Reply.TheVariants.{Done}
+use Rattle.desk_words.specs.declared.reply.Acknowledgement.{Acknowledgement}
+use Rattle.desk_words.specs.declared.reply.Acknowledgement.TheVariants.{Document as Stands}
+use Rattle.desk_core.specs.declared.outcome.Change.{Change as CoreChange}
+use Rattle.desk_core.specs.declared.outcome.Change.TheVariants.{Put}
+use Rattle.desk_core.specs.declared.outcome.Entry.{Entry}
+use Rattle.desk_core.specs.declared.outcome.Outcome.TheVariants.{Replies, Changes}
+use Rattle.desk_core.specs.declared.outcome.Prepared.{Prepared}
 use Rattle.desk_core.specs.Invariants.{AreKept, HasShortSets, numbers_of}
-use Rattle.desk_core.specs.DeskViews.{desk_with, IsNext}
-use Rattle.desk_core.specs.Outcomes.{document_in, outcome_of, Prepares}
+use Rattle.desk_core.specs.DeskViews.{changed, desk_with, lasts_and, MayChange}
+use Rattle.desk_core.specs.Outcomes.{IsAnswer, last_with, Leaves, Comes, Prepares}
 use Rattle.desk_core.proofs.DeskLemmas.{with_document-behind}
 
 -- ---- a document behind the others
@@ -99,15 +107,15 @@ AreKept-next documents top d kept number left short =
     }
 
 -- the desk with a document behind the others
-pub desk_with-behind : (desk : Desk) (document : Document) →
+pub changed-behind : (desk : Desk) (document : Document) →
     All (λ e. e.doc.number ≤ desk.serial.top) desk.serial.documents →
     document.doc.number ≡ desk.serial.top + 1 →
     record desk {
       serial = record desk.serial
           { documents = desk.serial.documents ++ document ∷ []; top = document.doc.number };
-    } ≡ desk_with
-    desk (Some document)
-desk_with-behind desk document numbered number =
+    } ≡ changed
+    desk (Put document)
+changed-behind desk document numbered number =
     let greater : document.doc.number ≡ max desk.serial.top document.doc.number = omega arith in
     (λ i. record desk {
       serial = record desk.serial {
@@ -198,12 +206,7 @@ document_from-made setting state doc (ByHand given) =
     Short : Sets → Type 0
     Short sets = All (λ set. length set ≤ 5_000) sets.registers
 
--- ---- effects
-
--- an effect puts its document into the desk, which may be committed
-record Puts (desk : Desk) (effect : Effect) : Type 0 where
-  state_is : record desk { serial = effect.state } ≡ desk_with desk (document_in effect.works)
-  next : ForSome (document_in effect.works) (IsNext desk)
+-- ---- plans
 
 plan_manual-doc : (config : Config) (m : ManualRequest) (sight : Sight) →
     IfOk (plan_manual config m sight) (λ plan. plan.doc ≡ manual_doc sight.drawn m.date)
@@ -247,119 +250,223 @@ change_effect-refused tests setting state m refusal no_doc planned =
     subst P (sym no_doc) (ap (λ (r : Result Plan Refusal). r >>= λ p. plan_effect tests setting
     state (next_number state) (new_sight state) p) planned)
 
-module _ (desk : Desk) (m : ManualRequest) (meaning : Meaning) where
-  -- the effect of a document that was made
-  puts : (plan : Plan) → plan.doc ≡ manual_doc (next_number desk.serial) m.date →
-      desk.serial.top < greatest_number → next_number desk.serial ≡ desk.serial.top + 1 →
-      (after : Option Document) → IsMadeFor plan.doc after →
-      Puts desk (effect_with desk.serial (next_number desk.serial) plan
-      (record { before = None; after = after }))
-  puts plan doc_is left next after made =
-      let Fits : Option Document → Type 0 =
-      λ a. Puts desk (effect_with desk.serial (next_number desk.serial) plan
-      (record { before = None; after = a })) in
-      let number : made.document.doc.number ≡ next_number desk.serial =
-      ap (λ (d : Doc). d.number) (made.doc_is ∙ doc_is) in
-      subst Fits (sym made.is) (record {
-        state_is = ap (λ n. record desk {
-          serial = record desk.serial {
-            documents = with_document made.document desk.serial.documents;
-            top = max
-                desk.serial.top n;
-          };
-        }) (sym number);
-        next = λ x e. let same : made.document ≡ x =
-            cc in subst (IsNext desk) same
-            (record { number = number ∙ next; left = left; short = made.short });
-      })
+-- what it made has the number that was drawn
+pub plan_manual-number : (config : Config) (m : ManualRequest) (sight : Sight) (plan : Plan) →
+    plan_manual config m sight ≡ Ok plan → plan.doc.number ≡ sight.drawn
+plan_manual-number config m sight plan planned = ap (λ (d : Doc). d.number)
+    (IfOk-elim (λ (p : Plan). p.doc ≡ manual_doc sight.drawn m.date) (plan_manual config m sight)
+    plan (plan_manual-doc config m sight) planned)
 
-  new_change-puts : meaning.draws ≡ true →
-      IfOk (change_effect (tests_of desk meaning) desk.setting desk.serial (next_number desk.serial)
-      (new_change desk.setting.config m None)) (Puts desk)
-  unfolding change_effect plan_effect
-  new_change-puts draws =
-      IfOk-at (Puts desk) (plan_manual desk.setting.config m (new_sight desk.serial)) _
-      (λ plan planned. IfOk-at (Puts desk)
-      (unless (number_is_left desk.serial meaning.draws) (Limit Numbers greatest_number)) _
-      (λ u passed. IfOk-at (Puts desk)
-      (document_from desk.setting desk.serial plan.doc plan.source) _
-      (λ after made.
-      let passes : unless (number_is_left desk.serial meaning.draws)
-      (Limit Numbers greatest_number) ≡ Ok tt = passed in
-      let some : nat_lt desk.serial.top greatest_number ≡ true =
-      ap (number_is_left desk.serial) (sym draws)
-      ∙ unless-passed (number_is_left desk.serial meaning.draws)
-      (Limit Numbers greatest_number) passes in
-      puts plan (IfOk-elim (λ (p : Plan). p.doc ≡ manual_doc (next_number desk.serial) m.date)
-      (plan_manual desk.setting.config m (new_sight desk.serial)) plan
-      (plan_manual-doc desk.setting.config m (new_sight desk.serial)) planned)
-      (grind (arith, nat_tests)) (ap (λ b. cond b (desk.serial.top + 1) 0) some)
-      after (IfOk-elim (IsMadeFor plan.doc)
-      (document_from desk.setting desk.serial plan.doc plan.source) after
-      (document_from-made desk.setting desk.serial plan.doc plan.source) made))))
+-- ---- outcomes
 
-deed-puts : (desk : Desk) (r : Request) → IsRequest r →
-    IfOk (deed_effect (tests_of desk (meaning_at desk r)) desk.setting desk.serial
-    (command_at desk r).number (meaning_at desk r).deed) (Puts desk)
-unfolding question_effect
-deed-puts desk (Manual m) is =
-    let P : Option ℕ → Type 0 = λ doc. (meaning : Meaning) → meaning.draws ≡ is_none doc →
-    IfOk (change_effect (tests_of desk meaning) desk.setting desk.serial
-    (cond (is_none doc) (next_number desk.serial) 0) (new_change desk.setting.config m doc))
-    (Puts desk) in
-    subst P (sym is.no_doc) (λ meaning draws. new_change-puts desk m meaning draws)
-    (meaning_at desk (Manual m)) refl
-deed-puts desk (Balance b) is =
-    IfOk-at (Puts desk) (question_answer desk.serial (question_balance desk.setting.config b)) _
-    (λ answer given. record { state_is = refl; next = λ x e. cc })
+-- how a document stands is what its plan is acknowledged with
+acknowledged-made : (doc : Doc) (source : Source) (document : Document) → document.doc ≡ doc →
+    acknowledgement_of doc source
+    ≡ Stands document.doc.active document.doc.number document.doc.state
+acknowledged-made doc (ByHand given) document is =
+    ap (λ (d : Doc). Stands d.active d.number d.state) (sym is)
 
-effect_at-puts : (desk : Desk) (r : Request) → IsRequest r → IfOk (effect_at desk r) (Puts desk)
-unfolding effect_of
-effect_at-puts desk r is =
-    IfOk-at (Puts desk) (unless (is_clerk desk.setting.config (meaning_at desk r).clerk)
-    (refuses UnknownClerk)) _
-    (λ u known. IfOk-or_stop (Puts desk) _ (deed-puts desk r is))
-
--- ---- outcomes and steps
-
-event_of-reply : (desk : Desk) (deed : Deed) (command : Command) (effect : Result Effect Stop) →
-    (event_of desk deed command effect).reply ≡ (outcome_of effect).reply
-event_of-reply desk deed command (Ok effect) = refl
-event_of-reply desk deed command (Err stop) = refl
-
--- what a request comes to has the reply of its step
-pub step-reply : (desk : Desk) (r : Request) →
-    (step desk r).reply ≡ (outcome_of (effect_at desk r)).reply
-unfolding step
-step-reply desk r = event_of-reply desk (meaning_at desk r).deed (command_at desk r)
-    (effect_at desk r)
-
-event_of-desk : (desk : Desk) (deed : Deed) (command : Command) (effect : Result Effect Stop) →
-    IfOk effect (Puts desk) →
-    (event_of desk deed command effect).desk ≡ desk_with desk (outcome_of effect).document
-event_of-desk desk deed command (Ok effect) h = h.state_is
-event_of-desk desk deed command (Err stop) h = refl
-
-outcome_of-next : (desk : Desk) (effect : Result Effect Stop) → IfOk effect (Puts desk) →
-    ForSome (outcome_of effect).document (IsNext desk)
-outcome_of-next desk (Ok effect) h = h.next
-outcome_of-next desk (Err stop) h = λ x e. cc
-
--- what is prepared of a request is its step
-pub step-prepares : (desk : Desk) (r : Request) → IsRequest r → (outcome : Outcome) →
-    outcome ≡ outcome_of (effect_at desk r) → (text : Vec ℕ Global) →
-    text.items ≡ reply_text outcome.reply ++ 10 ∷ [] →
-    Prepares desk (step desk r)
-    (record { reply = outcome.reply; text = text; document = outcome.document })
-unfolding step
-step-prepares desk r is outcome comes text printed =
-    let puts = effect_at-puts desk r is in
+-- the effect of a plan whose document was made is to put it
+pub Leaves-made : (desk : Desk) (plan : Plan) (document : Document) →
+    plan.doc.number ≡ next_number desk.serial → desk.serial.top < greatest_number →
+    document_from desk.setting desk.serial plan.doc plan.source ≡ Ok (Some document) →
+    Leaves desk (effect_with desk.serial (next_number desk.serial) plan
+    (record { before = None; after = Some document })) (Put document)
+    (Stands document.doc.active document.doc.number document.doc.state)
+Leaves-made desk plan document number left made =
+    let for = IfOk-elim (IsMadeFor plan.doc)
+    (document_from desk.setting desk.serial plan.doc plan.source) (Some document)
+    (document_from-made desk.setting desk.serial plan.doc plan.source) made in
+    let same : for.document ≡ document = inner for.document document for.is in
+    let doc_is : document.doc ≡ plan.doc = ap (λ (d : Document). d.doc) (sym same) ∙ for.doc_is in
+    let drawn : document.doc.number ≡ next_number desk.serial =
+    ap (λ (d : Doc). d.number) doc_is ∙ number in
+    let some : nat_lt desk.serial.top greatest_number ≡ true = grind (arith, nat_tests) in
+    let next : next_number desk.serial ≡ desk.serial.top + 1 =
+    ap (λ b. cond b (desk.serial.top + 1) 0) some in
     record {
-      reply_is = step-reply desk r ∙ ap (λ (o : Outcome). o.reply) (sym comes);
-      text_is = printed ∙ ap (λ (reply : Reply). reply_text reply ++ 10 ∷ [])
-          (ap (λ (o : Outcome). o.reply) comes ∙ sym (step-reply desk r));
-      desk_is = event_of-desk desk (meaning_at desk r).deed (command_at desk r)
-          (effect_at desk r) puts ∙ ap (λ (o : Outcome). desk_with desk o.document) (sym comes);
-      next = subst (λ (o : Outcome). ForSome o.document (IsNext desk)) (sym comes)
-          (outcome_of-next desk (effect_at desk r) puts);
+      answer_is = ap Acknowledged (acknowledged-made plan.doc plan.source document doc_is);
+      state_is = ap (λ n. record desk {
+        serial = record desk.serial {
+          documents = with_document document desk.serial.documents;
+          top = max desk.serial.top n;
+        };
+      }) (sym drawn);
+      may = record {
+        number = drawn ∙ next;
+        left = left;
+        short = subst HasShortSets same for.short;
+      };
     }
+  where
+    inner : (x y : Document) → Some y ≡ Some x → x ≡ y
+    inner x y e = cc
+
+-- ---- steps
+
+-- what is prepared of a request that is answered, or goes no further
+pub step-replies : (desk : Desk) (r : Request) (reply : Reply) (prepared : Prepared) →
+    Comes desk (effect_at desk r) (Replies reply) → prepared.reply ≡ reply →
+    prepared.text.items ≡ reply_text reply ++ 10 ∷ [] → prepared.entry ≡ None →
+    Prepares desk (step desk r) prepared
+unfolding step
+step-replies desk r reply prepared comes reply_is text_is none =
+    at (effect_at desk r) comes
+  where
+    kept : (clerk : List ℕ) (number : Option ℕ) (text : List ℕ) (answer : Answer)
+        (lasts : List Last) → IsAnswer answer → lasts_with clerk number text answer lasts ≡ lasts
+    kept clerk None text answer lasts is = refl
+    kept clerk (Some n) text (Acknowledged a) lasts is = absurd is
+    kept clerk (Some n) text (Balance rows scales) lasts is = refl
+    kept clerk (Some n) text (Shown document) lasts is = refl
+
+    made : (event : Event) → event.reply ≡ reply → event.desk ≡ desk →
+        Prepares desk event prepared
+    made event replied stays = record {
+      reply_is = replied ∙ sym reply_is;
+      text_is = text_is ∙ ap (λ (x : Reply). reply_text x ++ 10 ∷ []) (sym replied);
+      desk_is = stays ∙ ap (desk_with desk) (sym none);
+      may = subst (λ (e : Option Entry). ForSome e (λ x. MayChange desk x.change)) (sym none)
+          (λ x e. cc);
+    }
+
+    at : (effect : Result Effect Stop) → Comes desk effect (Replies reply) →
+        Prepares desk (event_of desk (meaning_at desk r) (command_at desk r) effect) prepared
+    at (Ok effect) answers =
+        made (event_of desk (meaning_at desk r) (command_at desk r) (Ok effect)) answers.reply_is
+        (ap (λ (s : State). record desk {
+          serial = record s {
+            lasts = lasts_with (meaning_at desk r).clerk (meaning_at desk r).number (request_text r)
+                effect.answer s.lasts;
+          };
+        }) answers.state_is
+        ∙ ap (λ (ls : List Last). record desk { serial = record desk.serial { lasts = ls } })
+        (kept (meaning_at desk r).clerk (meaning_at desk r).number (request_text r) effect.answer
+        desk.serial.lasts answers.answer))
+    at (Err stop) replied =
+        made (event_of desk (meaning_at desk r) (command_at desk r) (Err stop)) replied refl
+
+-- what is prepared of a change
+pub step-changes : (desk : Desk) (r : Request) (change : CoreChange)
+    (acknowledgement : Acknowledgement) (prepared : Prepared) →
+    Comes desk (effect_at desk r) (Changes change acknowledgement) →
+    prepared.reply ≡ Done (Acknowledged acknowledgement) →
+    prepared.text.items ≡ reply_text prepared.reply ++ 10 ∷ [] →
+    prepared.entry ≡ Some (record {
+      change = change;
+      last = last_with (meaning_at desk r).clerk (meaning_at desk r).number (request_text r)
+          acknowledgement;
+    }) → Prepares desk (step desk r) prepared
+unfolding step
+step-changes desk r change acknowledgement prepared comes reply_is text_is entry_is =
+    at (effect_at desk r) comes
+  where
+    clerk : List ℕ
+    clerk = (meaning_at desk r).clerk
+
+    number : Option ℕ
+    number = (meaning_at desk r).number
+
+    last : Option Last
+    last = last_with clerk number (request_text r) acknowledgement
+
+    kept : (n : Option ℕ) (lasts : List Last) →
+        lasts_with clerk n (request_text r) (Acknowledged acknowledgement) lasts
+        ≡ lasts_and (last_with clerk n (request_text r) acknowledgement) lasts
+    kept None lasts = refl
+    kept (Some n) lasts = refl
+
+    lasts_same : (c : CoreChange) → (changed desk c).serial.lasts ≡ desk.serial.lasts
+    lasts_same (Put document) = refl
+
+    at : (effect : Result Effect Stop) → Comes desk effect (Changes change acknowledgement) →
+        Prepares desk (event_of desk (meaning_at desk r) (command_at desk r) effect) prepared
+    at (Err stop) nothing = absurd nothing
+    at (Ok effect) leaves =
+        let replied : Done effect.answer ≡ prepared.reply = ap Done leaves.answer_is
+        ∙ sym reply_is in
+        let state : effect.state ≡ (changed desk change).serial =
+        ap (λ (d : Desk). d.serial) leaves.state_is in
+        let setting : desk.setting ≡ (changed desk change).setting =
+        ap (λ (d : Desk). d.setting) leaves.state_is in
+        record {
+          reply_is = replied;
+          text_is = text_is ∙ ap (λ (x : Reply). reply_text x ++ 10 ∷ []) (sym replied);
+          desk_is =
+              (λ i. record {
+                setting = setting i;
+                serial = record (state i) {
+                  lasts = lasts_with clerk number (request_text r) (leaves.answer_is i)
+                      (state i).lasts;
+                };
+              })
+              ∙ ap (λ (ls : List Last). record (changed desk change) {
+                serial = record (changed desk change).serial {
+                  lasts = lasts_with clerk number (request_text r) (Acknowledged acknowledgement)
+                      ls;
+                };
+              }) (lasts_same change)
+              ∙ ap (λ (ls : List Last). record (changed desk change) {
+                serial = record (changed desk change).serial { lasts = ls };
+              }) (kept number desk.serial.lasts)
+              ∙ ap (desk_with desk) (sym entry_is);
+          may = subst (λ (e : Option Entry). ForSome e (λ x. MayChange desk x.change))
+              (sym entry_is) (λ x e. subst (λ (c : CoreChange). MayChange desk c)
+              (inner change x e) leaves.may);
+        }
+      where
+        inner : (c : CoreChange) (x : Entry) →
+            Some (record { change = c; last = last }) ≡ Some x → c ≡ x.change
+        inner c x e = cc
+
+-- ---- what a plan comes to
+
+pub plan-comes : (desk : Desk) (meaning : Meaning) (text : List ℕ) (plan : Plan)
+    (document : Document) → meaning.draws ≡ true → plan.doc.number ≡ next_number desk.serial →
+    desk.serial.top < greatest_number →
+    document_from desk.setting desk.serial plan.doc plan.source ≡ Ok (Some document) →
+    Comes desk (or_stop (plan_effect (tests_of desk meaning text) desk.setting desk.serial
+    (next_number desk.serial) (new_sight desk.serial) plan)) (Changes (Put document)
+    (Stands document.doc.active document.doc.number document.doc.state))
+unfolding plan_effect
+plan-comes desk meaning text plan document draws number left made =
+    subst (λ (r : Result Effect Refusal). Comes desk (or_stop r) (Changes (Put document)
+    (Stands document.doc.active document.doc.number document.doc.state))) (sym is)
+    (Leaves-made desk plan document number left made)
+  where
+    behind : Result (Option Document) Refusal → Result Effect Refusal
+    behind r = r >>= λ after. Ok (effect_with desk.serial (next_number desk.serial) plan
+        (record { before = None; after = after }))
+
+    some : nat_lt desk.serial.top greatest_number ≡ true
+    some = grind (arith, nat_tests)
+
+    is : (unless (number_is_left desk.serial meaning.draws) (Limit Numbers greatest_number) >>=
+        λ _. behind (document_from desk.setting desk.serial plan.doc plan.source))
+        ≡ Ok (effect_with desk.serial (next_number desk.serial) plan
+        (record { before = None; after = Some document }))
+    is =
+        ap (λ b. unless (number_is_left desk.serial b) (Limit Numbers greatest_number) >>=
+        λ _. behind (document_from desk.setting desk.serial plan.doc plan.source)) draws
+        ∙ ap (λ b. unless b (Limit Numbers greatest_number) >>=
+        λ _. behind (document_from desk.setting desk.serial plan.doc plan.source)) some
+        ∙ ap behind made
+
+-- ---- what is prepared
+
+-- what three facts of a value have together
+pub IfOk-three : {F X : Type 0} (P Q R S : X → Type 0) (r : Result X F) → IfOk r P → IfOk r Q →
+    IfOk r R → ((x : X) → P x → Q x → R x → S x) → IfOk r S
+IfOk-three P Q R S (Ok x) p q t all = all x p q t
+IfOk-three P Q R S (Err fault) p q t all = tt
+
+-- a reply that is given is that of the step
+pub step-reply : (desk : Desk) (r : Request) (reply : Reply) →
+    Comes desk (effect_at desk r) (Replies reply) → (step desk r).reply ≡ reply
+unfolding step
+step-reply desk r reply comes = at (effect_at desk r) comes
+  where
+    at : (effect : Result Effect Stop) → Comes desk effect (Replies reply) →
+        (event_of desk (meaning_at desk r) (command_at desk r) effect).reply ≡ reply
+    at (Ok effect) answers = answers.reply_is
+    at (Err stop) replied = replied

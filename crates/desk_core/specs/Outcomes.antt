@@ -1,35 +1,67 @@
 -- Private: what a request comes to, before anything is committed.
-use Rattle.std.specs.Prelude.{◌≡◌, Option, None, List, [], ◌∷◌, ◌++◌, Result, Ok, Err}
+use Rattle.std.specs.Prelude.{◌≡◌, ℕ, Option, None, Some, List, [], ◌∷◌, ◌++◌, Result, Ok, Err, ⊤}
 use Rattle.std.specs.Option.{ForSome}
-use Rattle.reg_base.specs.declared.records.Document.{Document}
+use Rattle.desk_words.specs.declared.reply.Acknowledgement.{Acknowledgement}
+use Rattle.desk_words.specs.declared.reply.Answer.{Answer}
+use Rattle.desk_words.specs.declared.reply.Answer.TheVariants.{Acknowledged, Balance, Shown}
+use Rattle.desk_words.specs.declared.reply.Reply.{Reply}
 use Rattle.desk_words.specs.declared.reply.Reply.TheVariants.{Done}
 use Rattle.desk_words.specs.ReplyTexts.{reply_text}
+use Rattle.desk_model.specs.declared.last.Last.{Last}
 use Rattle.desk_model.specs.State.{Desk}
-use Rattle.desk_model.specs.Effects.{Work, Effect, Stop}
+use Rattle.desk_model.specs.Effects.{Effect}
+use Rattle.desk_model.specs.Stops.{Stop}
 use Rattle.desk_model.specs.Desk.{Event, reply_at}
+use Rattle.desk_core.specs.declared.outcome.Change.{Change}
 use Rattle.desk_core.specs.declared.outcome.Outcome.{Outcome}
+use Rattle.desk_core.specs.declared.outcome.Outcome.TheVariants.{Replies, Changes}
 use Rattle.desk_core.specs.declared.outcome.Prepared.{Prepared}
-use Rattle.desk_core.specs.DeskViews.{desk_with, IsNext}
+use Rattle.desk_core.specs.DeskViews.{changed, desk_with, MayChange}
 
--- the document that works put into a desk
-abbrev pub document_in : List Work → Option Document
-document_in [] = None
-document_in (work ∷ works) = work.after
+-- the reply where a test stops a request
+abbrev pub stop_reply : Result (Unit {0}) Stop → Option Reply
+stop_reply (Ok u) = None
+stop_reply (Err stop) = Some (reply_at stop)
 
--- the reply to a request with its effect, and the document that is left to be committed
-abbrev pub outcome_of : Result Effect Stop → Outcome
-outcome_of (Ok effect) = record {
-  reply = Done effect.answer;
-  document = document_in effect.works;
-}
-outcome_of (Err stop) = record {
-  reply = reply_at stop;
-  document = None;
-}
+-- a request as its clerk's last one, where it has a number
+abbrev pub last_with : List ℕ → Option ℕ → List ℕ → Acknowledgement → Option Last
+last_with clerk None text acknowledgement = None
+last_with clerk (Some number) text acknowledgement = Some (record {
+  clerk = clerk;
+  number = number;
+  text = text;
+  acknowledgement = acknowledgement;
+})
 
--- what is prepared is an event: its reply, the text of that, and a document that makes its desk
+-- the answer to a question
+abbrev pub IsAnswer : Answer → Type 0
+IsAnswer (Acknowledged acknowledgement) = ⊥
+IsAnswer (Balance rows scales) = ⊤
+IsAnswer (Shown document) = ⊤
+
+-- an effect is answered, and changes nothing
+pub record Answers (desk : Desk) (effect : Effect) (reply : Reply) : Type 0 where
+  pub reply_is : Done effect.answer ≡ reply
+  pub state_is : effect.state ≡ desk.serial
+  pub answer : IsAnswer effect.answer
+
+-- an effect is what a change does to the desk, which it may do
+pub record Leaves (desk : Desk) (effect : Effect) (change : Change)
+    (acknowledgement : Acknowledgement) : Type 0 where
+  pub answer_is : effect.answer ≡ Acknowledged acknowledgement
+  pub state_is : record desk { serial = effect.state } ≡ changed desk change
+  pub may : MayChange desk change
+
+-- what a request comes to, by its effect or by why it goes no further
+abbrev pub Comes : Desk → Result Effect Stop → Outcome → Type 0
+Comes desk (Ok effect) (Replies reply) = Answers desk effect reply
+Comes desk (Ok effect) (Changes change acknowledgement) = Leaves desk effect change acknowledgement
+Comes desk (Err stop) (Replies reply) = reply_at stop ≡ reply
+Comes desk (Err stop) (Changes change acknowledgement) = ⊥
+
+-- what is prepared is an event: its reply, the text of that, and an entry that makes its desk
 pub record Prepares (desk : Desk) (event : Event) (prepared : Prepared) : Type 0 where
   pub reply_is : event.reply ≡ prepared.reply
   pub text_is : prepared.text.items ≡ reply_text event.reply ++ 10 ∷ []
-  pub desk_is : event.desk ≡ desk_with desk prepared.document
-  pub next : ForSome prepared.document (IsNext desk)
+  pub desk_is : event.desk ≡ desk_with desk prepared.entry
+  pub may : ForSome prepared.entry (λ entry. MayChange desk entry.change)

@@ -1,11 +1,13 @@
-//! Who asks, and the clerk that is built in.
+//! Who asks, by which right, and the clerk that is built in.
 ghost use Rattle.std.specs.Prelude.{◌≡◌};
 ghost use Rattle.cfg_model.specs.declared.config.Config.{Config as ConfigOf};
+ghost use Rattle.desk_model.specs.Clerks.{has_word_of, is_allowed as may, is_clerk as knows};
+ghost use Rattle.desk_model.specs.Clerks.{is_batch as is_batch_name, rights_of};
 ghost use Rattle.desk_model.specs.Meanings.{meaning_of};
-ghost use Rattle.desk_model.specs.Serial.{is_batch as is_batch_name};
 
+use cfg_model::Config;
 use desk_words::Request;
-use reg_base::Name;
+use reg_base::{Name, Right};
 
 // The clerk of a request.
 pub(crate) fn clerk_of(request: &Request) -> &Name
@@ -17,9 +19,62 @@ pub(crate) fn clerk_of(request: &Request) -> &Name
     }
 }
 
+// The right that a request asks for.
+pub(crate) fn right_of(request: &Request) -> Right
+    ensures { (config : ConfigOf) → result ≡ (meaning_of config request.now).right }
+{
+    match request {
+        Request::Manual(_) => Right::Manual,
+        Request::Balance(_) => Right::Read,
+    }
+}
+
+// The number of a request among those of its clerk, where it has one.
+pub(crate) fn number_of(request: &Request) -> Option<u32>
+    ensures { (config : ConfigOf) → result ≡ (meaning_of config request.now).number }
+{
+    match request {
+        Request::Manual(manual) => Some(manual.no),
+        Request::Balance(_) => None,
+    }
+}
+
 // Whether a name is that of the clerk that is built in.
 pub(crate) fn is_batch(name: &Name) -> bool
     ensures { result ≡ is_batch_name name.now }
 {
     name.as_str() == "batch"
+}
+
+// Whether there is such a clerk.
+pub(crate) fn is_clerk(config: &Config, name: &Name) -> bool
+    ensures { result ≡ knows config.now name.now }
+{
+    is_batch(name) || config.clerk_place(name).is_some()
+}
+
+// Whether a clerk may: the clerk that is built in has every right.
+pub(crate) fn is_allowed(config: &Config, name: &Name, right: Right) -> bool
+    ensures { result ≡ may config.now name.now right }
+{
+    is_batch(name) || is_given(config, name, right)
+}
+
+// Whether the configuration gives a clerk the right.
+fn is_given(config: &Config, name: &Name, right: Right) -> bool
+    ensures { result ≡ has_word_of right (rights_of config.now name.now) }
+{
+    match config
+        .clerk_place(name)
+        .and_then(|place| config.clerks.get(place))
+    {
+        Some(clerk) => has_right(clerk.rights.as_slice(), right),
+        None => false,
+    }
+}
+
+fn has_right(rights: &[Right], right: Right) -> bool
+    ensures { result ≡ has_word_of right rights.now }
+{
+    rights.iter().any(|r| r.word() == right.word())
 }

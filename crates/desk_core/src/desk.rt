@@ -6,7 +6,7 @@
 //!
 //!     documents  [1: nail 10.000 50.00]  [2: nail -2.000 -10.00]        top  2
 ghost use Rattle.std.specs.Prelude.{◌≡◌, ◌<◌, ◌++◌, ◌∷◌, [], vec_len, vec_capacity, IsTrue, IfOk};
-ghost use Rattle.std.specs.Prelude.{OnOk, OnErr, None, Some, map};
+ghost use Rattle.std.specs.Prelude.{OnOk, OnErr, None, Some, map, List, ℕ};
 ghost use Rattle.std.specs.Option.{ForSome};
 ghost use Rattle.desk_words.specs.declared.request.Request.TheVariants as RequestIs;
 ghost use Rattle.desk_words.specs.ReplyTexts.{HasScales};
@@ -16,28 +16,34 @@ ghost use Rattle.desk_model.specs.Plans.{Meaning};
 ghost use Rattle.desk_model.specs.Manuals.{manual_doc as manual_doc_of};
 ghost use Rattle.desk_model.specs.Manuals.{plan_manual as plan_of_manual};
 ghost use Rattle.desk_model.specs.Questions.{question_balance};
-ghost use Rattle.desk_model.specs.Effects.{or_stop};
-ghost use Rattle.desk_model.specs.Serial.{is_clerk, deed_effect, plan_effect};
+ghost use Rattle.desk_model.specs.Stops.{or_stop};
+ghost use Rattle.desk_model.specs.Serial.{deed_effect, plan_effect};
 ghost use Rattle.desk_model.specs.Serial.{question_answer, question_effect};
 ghost use Rattle.desk_model.specs.Serial.{document_from as document_from_plan};
 ghost use Rattle.desk_model.specs.Desk.{step as step_of, meaning_at, command_at, effect_at};
 ghost use Rattle.desk_model.specs.Desk.{tests_of, next_number as number_next};
 ghost use Rattle.desk_model.specs.Laws.{IsRefusal};
-ghost use Rattle.desk_core.specs.DeskViews.{IsStep, IsNext, desk_with};
-ghost use Rattle.desk_core.specs.Outcomes.{Prepares, outcome_of};
+ghost use Rattle.desk_core.specs.declared.outcome.Change.TheVariants as ChangeIs;
+ghost use Rattle.desk_core.specs.DeskViews.{IsStep, IsNext, MayChange, changed, desk_with};
+ghost use Rattle.desk_core.specs.Outcomes.{Prepares, Comes, IsAnswer};
 ghost use Rattle.desk_core.specs.Tries.{Tries, TriesAs};
 
-use crate::clerks::{clerk_of, is_batch};
+use crate::clerks::{clerk_of, is_allowed, is_clerk, right_of};
 use crate::given::wrong;
 use crate::making::record_sets;
 use crate::manual::given_sets;
-use crate::outcome::{Outcome, Prepared, document_outcome, refusal_outcome, reply_line};
+use crate::numbers::{number_reply, put_last};
+use crate::outcome::{
+    Change, Entry, Outcome, Prepared, document_outcome, prepare_change, prepare_reply,
+    refusal_outcome,
+};
+use crate::room::put_behind;
 use crate::rows::balance_rows;
 use crate::tried::{PartFault, Tried};
 use cfg_model::{Config, Resource};
-use desk_model::{Given, Plan, Source, refusals_change_nothing, replies_have_scales};
+use desk_model::{Given, Last, Plan, Source, refusals_change_nothing, replies_have_scales};
 use desk_words::{Answer, Balance, Field, Limit, Manual, Refusal, Reply, Request};
-use reg_base::{Comment, Cut, Date, Doc, DocState, Document, List, Memory, Name, Scale};
+use reg_base::{Comment, Cut, Date, Doc, DocState, Document, List, Memory, Scale};
 use std::alloc::Global;
 use std::marker::Model;
 
@@ -54,6 +60,7 @@ pub struct Desk {
     config: Config,
     documents: Vec<Document>,
     top: u32,
+    lasts: Vec<Last>,
 }
 
 impl Model for Desk {
@@ -66,9 +73,14 @@ impl Model for Desk {
     ghost view = { λ d. record {
       desk = record {
         setting = record { config = d.config };
-        serial = record { documents = d.documents.items; top = d.top };
+        serial = record {
+          documents = d.documents.items;
+          top = d.top;
+          lasts = d.lasts.items;
+        };
       };
       spare = vec_capacity d.documents - vec_len d.documents;
+      spare_lasts = vec_capacity d.lasts - vec_len d.lasts;
     } };
 
     ghost invariant = { λ d. AreKept d.documents.items d.top };
@@ -83,6 +95,7 @@ impl Desk {
             config,
             documents: Vec::new(alloc),
             top: 0,
+            lasts: Vec::new(alloc),
         }
     }
 
@@ -109,92 +122,134 @@ impl Desk {
         let Prepared {
             reply,
             text: _,
-            document,
+            entry,
         } = self.prepare(alloc, request)?;
-        self.enter(document)?;
+        self.enter(entry)?;
         refusals_change_nothing();
         replies_have_scales();
         Ok(reply)
     }
 
-    // Takes all memory of a request but the room of its document, and changes nothing.
+    // Takes all memory of a request but the room of its entry, and changes nothing.
     pub(crate) fn prepare(&self, alloc: Global, request: &Request) -> Result<Prepared, Memory>
         requires { IsRequest request.now }
         ensures { IfOk result (Prepares self.now.desk (step_of self.now.desk request.now)) }
     {
-        let Outcome { reply, document } = self.outcome(alloc, request)?;
-        replies_have_scales();
-        let text = reply_line(alloc, &reply)?;
-        Ok(Prepared {
-            reply,
-            text,
-            document,
-        })
+        match self.outcome(alloc, request)? {
+            Outcome::Replies(reply) => {
+                replies_have_scales();
+                prepare_reply(alloc, reply)
+            }
+            Outcome::Changes {
+                change,
+                acknowledgement,
+            } => prepare_change(alloc, request, change, acknowledgement),
+        }
     }
 
-    // Makes the room of a document and commits it; want of memory leaves the desk as it was.
-    pub(crate) fn enter(&mut self, document: Option<Document>) -> Result<(), Memory>
-        requires { ForSome document (IsNext self.old.desk) }
-        ensures ok { OnOk result (self.new.desk ≡ desk_with self.old.desk document) }
+    // Makes the room of an entry and commits it; want of memory leaves the desk as it was.
+    pub(crate) fn enter(&mut self, entry: Option<Entry>) -> Result<(), Memory>
+        requires { ForSome entry (λ e. MayChange self.old.desk e.change) }
+        ensures ok { OnOk result (self.new.desk ≡ desk_with self.old.desk entry) }
         ensures err { OnErr result (self.new.desk ≡ self.old.desk) }
     {
-        // The room is made first: nothing may fail once a document is committed.
-        self.make_room(&document)?;
-        self.commit(document);
+        let Some(entry) = entry else {
+            return Ok(());
+        };
+        // The room is made first: nothing may fail once a part of the entry is committed.
+        self.make_room()?;
+        self.commit(entry);
         Ok(())
     }
 
-    // Makes the room for a document, where there is one.
-    fn make_room(&mut self, document: &Option<Document>) -> Result<(), Memory>
-        ensures room { OnOk result (ForSome document.now (λ _. 0 < self.new.spare)) }
+    // Makes the room for one more document and one more last request.
+    fn make_room(&mut self) -> Result<(), Memory>
+        ensures documents { OnOk result (0 < self.new.spare) }
+        ensures lasts { OnOk result (0 < self.new.spare_lasts) }
         ensures same { self.new.desk ≡ self.old.desk }
     {
-        if document.is_some() {
-            self.documents.reserve(1)?;
-        }
+        self.documents.reserve(1)?;
+        self.lasts.reserve(1)?;
         Ok(())
     }
 
-    // Commits a document, where there is one. It takes no memory.
-    fn commit(&mut self, document: Option<Document>)
-        requires next { ForSome document (IsNext self.old.desk) }
-        requires room { ForSome document (λ _. 0 < self.old.spare) }
-        ensures { self.new.desk ≡ desk_with self.old.desk document }
+    // Commits an entry. It takes no memory.
+    fn commit(&mut self, entry: Entry)
+        requires may { MayChange self.old.desk entry.change }
+        requires documents { 0 < self.old.spare }
+        requires lasts { 0 < self.old.spare_lasts }
+        ensures { self.new.desk ≡ desk_with self.old.desk (Some entry) }
     {
-        if let Some(document) = document {
-            self.top = document.doc.number;
-            put_behind(&mut self.documents, document);
+        let Entry { change, last } = entry;
+        self.change(change);
+        if let Some(last) = last {
+            put_last(&mut self.lasts, last);
         }
     }
 
-    // Whether there is such a clerk.
-    fn has_clerk(&self, name: &Name) -> bool
-        ensures { result ≡ is_clerk self.now.desk.setting.config name.now }
+    // Makes a change.
+    fn change(&mut self, change: Change)
+        requires may { MayChange self.old.desk change }
+        requires room { 0 < self.old.spare }
+        ensures desk { self.new.desk ≡ changed self.old.desk change }
+        ensures lasts { self.new.spare_lasts ≡ self.old.spare_lasts }
     {
-        is_batch(name) || self.config.clerk_place(name).is_some()
+        match change {
+            Change::Put(document) => self.put(document),
+        }
+    }
+
+    // Puts a document behind the others.
+    fn put(&mut self, document: Document)
+        requires next { IsNext self.old.desk document }
+        requires room { 0 < self.old.spare }
+        ensures desk { self.new.desk ≡ changed self.old.desk (ChangeIs.Put document) }
+        ensures lasts { self.new.spare_lasts ≡ self.old.spare_lasts }
+    {
+        self.top = document.doc.number;
+        put_behind(&mut self.documents, document);
     }
 
     // What the request comes to, before anything is committed.
     #[tactic(auto, unfolding(desk_model::specs::Serial::effect_of))]
     fn outcome(&self, alloc: Global, request: &Request) -> Result<Outcome, Memory>
         requires { IsRequest request.now }
-        ensures { IfOk result (λ outcome. outcome
-            ≡ outcome_of (effect_at self.now.desk request.now)) }
+        ensures { IfOk result (Comes self.now.desk (effect_at self.now.desk request.now)) }
     {
-        if !self.has_clerk(clerk_of(request)) {
+        let clerk = clerk_of(request);
+        if !is_clerk(&self.config, clerk) {
             return Ok(refusal_outcome(Refusal::UnknownClerk));
         }
+        let right = right_of(request);
+        if !is_allowed(&self.config, clerk, right) {
+            return Ok(refusal_outcome(Refusal::NotAllowed { right }));
+        }
+        match number_reply(alloc, &self.lasts, request)? {
+            Some(reply) => Ok(Outcome::Replies(reply)),
+            None => self.deed_outcome(alloc, request),
+        }
+    }
+
+    // What the request does, once its clerk, his right and its number were asked.
+    fn deed_outcome(&self, alloc: Global, request: &Request) -> Result<Outcome, Memory>
+        requires { IsRequest request.now }
+        ensures { (text : List ℕ) → IfOk result (Comes self.now.desk (or_stop (deed_effect
+            (tests_of self.now.desk (meaning_at self.now.desk request.now) text)
+            self.now.desk.setting self.now.desk.serial
+            (command_at self.now.desk request.now).number
+            (meaning_at self.now.desk request.now).deed))) }
+    {
         match request {
-            Request::Manual(manual) => self.change(alloc, manual),
+            Request::Manual(manual) => self.manual_outcome(alloc, manual),
             Request::Balance(balance) => self.look(alloc, balance),
         }
     }
 
     // What a change by hand comes to.
-    fn change(&self, alloc: Global, manual: &Manual) -> Result<Outcome, Memory>
+    fn manual_outcome(&self, alloc: Global, manual: &Manual) -> Result<Outcome, Memory>
         requires { IsManualRequest manual.now }
-        ensures { IfOk result (λ outcome. outcome ≡ outcome_of (or_stop (deed_effect
-            (tests_of self.now.desk (meaning_at self.now.desk (RequestIs.Manual manual.now)))
+        ensures { (text : List ℕ) → IfOk result (Comes self.now.desk (or_stop (deed_effect
+            (tests_of self.now.desk (meaning_at self.now.desk (RequestIs.Manual manual.now)) text)
             self.now.desk.setting self.now.desk.serial
             (command_at self.now.desk (RequestIs.Manual manual.now)).number
             (meaning_at self.now.desk (RequestIs.Manual manual.now)).deed))) }
@@ -209,9 +264,11 @@ impl Desk {
     // The document that `manual` makes, or the first refusal of its records.
     #[tactic(auto, unfolding(desk_model::specs::Manuals::plan_manual))]
     fn plan_manual(&self, alloc: Global, manual: &Manual) -> Tried<Plan>
-        ensures { Tries result
+        ensures value { Tries result
             (plan_of_manual self.now.desk.setting.config manual.now
             (record { before = None; drawn = number_next self.now.desk.serial })) }
+        ensures number { IfOk result
+            (λ plan. plan.doc.number ≡ number_next self.now.desk.serial) }
     {
         let given = given_sets(alloc, &self.config, &manual.sets)?;
         let doc = manual_doc(alloc, self.next_number(), manual.date);
@@ -232,8 +289,10 @@ impl Desk {
     // made.
     #[tactic(auto, unfolding(desk_model::specs::Serial::plan_effect))]
     fn plan_outcome(&self, alloc: Global, plan: Plan) -> Result<Outcome, Memory>
-        ensures { (meaning : Meaning) → IsTrue meaning.draws → IfOk result (λ outcome. outcome
-            ≡ outcome_of (or_stop (plan_effect (tests_of self.now.desk meaning)
+        requires { plan.doc.number ≡ number_next self.now.desk.serial }
+        ensures { (meaning : Meaning) (text : List ℕ) → IsTrue meaning.draws
+            → IfOk result (Comes self.now.desk (or_stop (plan_effect
+            (tests_of self.now.desk meaning text)
             self.now.desk.setting self.now.desk.serial (number_next self.now.desk.serial)
             (record { before = None; drawn = number_next self.now.desk.serial }) plan))) }
     {
@@ -270,15 +329,12 @@ impl Desk {
     // What a question for a balance comes to.
     #[tactic(auto, unfolding(desk_model::specs::Serial::question_effect))]
     fn look(&self, alloc: Global, balance: &Balance) -> Result<Outcome, Memory>
-        ensures { IfOk result (λ outcome. outcome ≡ outcome_of (or_stop (question_effect
+        ensures { IfOk result (Comes self.now.desk (or_stop (question_effect
             self.now.desk.serial
             (question_balance self.now.desk.setting.config balance.now)))) }
     {
         match self.answer_balance(alloc, balance) {
-            Ok(answer) => Ok(Outcome {
-                reply: Reply::Done(answer),
-                document: None,
-            }),
+            Ok(answer) => Ok(Outcome::Replies(Reply::Done(answer))),
             Err(PartFault::Refused(refusal)) => Ok(refusal_outcome(refusal)),
             Err(PartFault::Memory) => Err(Memory),
         }
@@ -287,8 +343,9 @@ impl Desk {
     // The rows of a balance of all the register's records.
     #[tactic(auto, unfolding(desk_model::specs::Questions::question_balance, desk_model::specs::Serial::question_answer))]
     fn answer_balance(&self, alloc: Global, balance: &Balance) -> Tried<Answer>
-        ensures { Tries result (question_answer self.now.desk.serial
+        ensures value { Tries result (question_answer self.now.desk.serial
             (question_balance self.now.desk.setting.config balance.now)) }
+        ensures answer { IfOk result IsAnswer }
     {
         let Some(place) = self.config.register_place(&balance.register) else {
             return Err(wrong(Field::Register));
@@ -305,14 +362,6 @@ impl Desk {
         let scales = scales_of(alloc, resources)?;
         Ok(Answer::Balance { rows, scales })
     }
-}
-
-// Puts a document behind the others, for which there is room.
-fn put_behind(documents: &mut Vec<Document>, document: Document)
-    requires { vec_len documents.old < vec_capacity documents.old }
-    ensures { documents.new.items ≡ documents.old.items ++ document ∷ [] }
-{
-    documents.push(document).unwrap();
 }
 
 fn no_number_left() -> Refusal

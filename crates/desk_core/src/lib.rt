@@ -17,11 +17,13 @@ mod given;
 mod line;
 mod making;
 mod manual;
+mod numbers;
 mod outcome;
 mod part;
+mod room;
 mod rows;
 mod tried;
 
 pub use desk::{Desk, StepEnd};
 pub use line::answer_line;
-pub use outcome::{Outcome, Prepared};
+pub use outcome::{Change, Entry, Outcome, Prepared};

@@ -10,7 +10,7 @@ ghost use Rattle.desk_core.specs.Outcomes.{Prepares};
 
 use crate::clerks::{clerk_of, is_batch};
 use crate::desk::{Desk, StepEnd};
-use crate::outcome::{Prepared, reply_line};
+use crate::outcome::{Prepared, prepare_reply};
 use desk_words::{Refusal, Reply, Request, WordFault};
 use reg_base::{Line, Memory};
 use std::alloc::Global;
@@ -28,9 +28,9 @@ pub fn answer_line(alloc: Global, desk: &mut Desk, line: &Line) -> Result<Option
     let Prepared {
         reply: _,
         text,
-        document,
+        entry,
     } = prepare_line(alloc, desk, line)?;
-    desk.enter(document)?;
+    desk.enter(entry)?;
     Ok(Some(text))
 }
 
@@ -81,11 +81,5 @@ fn prepare_refusal(alloc: Global, desk: &Desk, refusal: Refusal) -> Result<Prepa
         (Prepares desk.now.desk (refusal_event desk.now.desk refusal)) }
 {
     let _ = desk;
-    let reply = Reply::Refused(refusal);
-    let text = reply_line(alloc, &reply)?;
-    Ok(Prepared {
-        reply,
-        text,
-        document: None,
-    })
+    prepare_reply(alloc, Reply::Refused(refusal))
 }

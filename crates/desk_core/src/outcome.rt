@@ -1,56 +1,122 @@
 //! What a request comes to, before anything is changed.
-ghost use Rattle.std.specs.Prelude.{◌≡◌, ◌++◌, ◌∷◌, [], None, Some, Err, IfOk};
+ghost use Rattle.std.specs.Prelude.{◌≡◌, ◌++◌, ◌∷◌, [], None, Some, IfOk};
+ghost use Rattle.cfg_model.specs.declared.config.Config.{Config as ConfigOf};
 ghost use Rattle.desk_words.specs.ReplyTexts.{HasScales, reply_text};
-ghost use Rattle.desk_model.specs.Effects.{refuses};
-ghost use Rattle.desk_core.specs.Outcomes.{outcome_of};
+ghost use Rattle.desk_words.specs.RequestTexts.{request_text};
+ghost use Rattle.desk_model.specs.Meanings.{meaning_of};
+ghost use Rattle.desk_core.specs.Outcomes.{last_with};
+ghost use Rattle.desk_core.specs.declared.outcome.Outcome.TheVariants.{Replies};
 
-use desk_words::{Answer, Refusal, Reply};
+use crate::numbers::last_request;
+use desk_model::Last;
+use desk_words::{Acknowledgement, Answer, Refusal, Reply, Request};
 use reg_base::{Document, Memory};
 use std::alloc::Global;
 
-/// What a request comes to: its reply, and the document that is left to be committed.
+/// What is left to be done to a desk.
 #[derive(Drop)]
-pub struct Outcome {
-    pub reply: Reply,
-    pub document: Option<Document>,
+pub enum Change {
+    /// A document is put in the place of its number.
+    Put(Document),
 }
 
-/// An outcome with the text of its reply: all that a commit needs besides its room.
+/// What a request comes to.
+#[derive(Drop)]
+pub enum Outcome {
+    /// A reply, and nothing changes.
+    Replies(Reply),
+    /// A change, and what it is acknowledged with.
+    Changes {
+        change: Change,
+        acknowledgement: Acknowledgement,
+    },
+}
+
+/// What is left to be committed: a change, and the request that is its clerk's last.
+#[derive(Drop)]
+pub struct Entry {
+    pub change: Change,
+    /// Absent where the request has no number.
+    pub last: Option<Last>,
+}
+
+/// A reply with its text, and what is left to be committed: all that a commit needs besides its
+/// room.
 #[derive(Drop)]
 pub struct Prepared {
     pub reply: Reply,
     /// The reply's text with a line feed.
     pub text: Vec<u8>,
-    pub document: Option<Document>,
+    pub entry: Option<Entry>,
 }
 
 pub(crate) fn refusal_outcome(refusal: Refusal) -> Outcome
-    ensures { result ≡ outcome_of (Err (refuses refusal)) }
+    ensures { result ≡ Replies (Reply.Refused refusal) }
 {
-    Outcome {
-        reply: Reply::Refused(refusal),
-        document: None,
-    }
+    Outcome::Replies(Reply::Refused(refusal))
 }
 
-// A document that was made is to be committed, and its change answers how it stands.
+// A document that was made is to be put, and its change is acknowledged by how it stands.
 pub(crate) fn document_outcome(document: Document) -> Outcome
-    ensures { result ≡ record {
-      reply = Reply.Done (Answer.Document
-          document.doc.active document.doc.number document.doc.state);
-      document = Some document;
-    } }
+    ensures { result ≡ Outcome.Changes (Change.Put document)
+        (Acknowledgement.Document document.doc.active document.doc.number document.doc.state) }
 {
     let doc = &document.doc;
-    let answer = Answer::Document {
+    let acknowledgement = Acknowledgement::Document {
         active: doc.active,
         doc: doc.number,
         state: doc.state,
     };
-    Outcome {
-        reply: Reply::Done(answer),
-        document: Some(document),
+    Outcome::Changes {
+        change: Change::Put(document),
+        acknowledgement,
     }
+}
+
+// A reply with its text, which changes nothing.
+pub(crate) fn prepare_reply(alloc: Global, reply: Reply) -> Result<Prepared, Memory>
+    requires { HasScales reply }
+    ensures reply { IfOk result (λ prepared. prepared.reply ≡ reply) }
+    ensures text { IfOk result (λ prepared. prepared.text.items ≡ reply_text reply ++ 10 ∷ []) }
+    ensures entry { IfOk result (λ prepared. prepared.entry ≡ None) }
+{
+    let text = reply_line(alloc, &reply)?;
+    Ok(Prepared {
+        reply,
+        text,
+        entry: None,
+    })
+}
+
+// A change with the text of its acknowledgement, and its request as its clerk's last one.
+pub(crate) fn prepare_change(
+    alloc: Global,
+    request: &Request,
+    change: Change,
+    acknowledgement: Acknowledgement,
+) -> Result<Prepared, Memory>
+    ensures reply { IfOk result
+        (λ prepared. prepared.reply ≡ Reply.Done (Answer.Acknowledged acknowledgement)) }
+    ensures text { IfOk result
+        (λ prepared. prepared.text.items ≡ reply_text prepared.reply ++ 10 ∷ []) }
+    ensures entry { (config : ConfigOf) → IfOk result (λ prepared. prepared.entry ≡ Some (record {
+      change = change;
+      last = last_with (meaning_of config request.now).clerk (meaning_of config request.now).number
+          (request_text request.now) acknowledgement;
+    })) }
+{
+    let last = last_request(alloc, request, &acknowledgement)?;
+    let reply = Reply::Done(Answer::Acknowledged(acknowledgement));
+    let Prepared {
+        reply,
+        text,
+        entry: _,
+    } = prepare_reply(alloc, reply)?;
+    Ok(Prepared {
+        reply,
+        text,
+        entry: Some(Entry { change, last }),
+    })
 }
 
 // The text of a reply with a line feed.

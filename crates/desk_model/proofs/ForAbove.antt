@@ -1,9 +1,9 @@
--- For the crates above: that accepted balances are sums, over plain variables.
+-- For the crates above: what holds of the lines that were answered, over plain variables.
 use Rattle.std.proofs.Common.{List}
 use Rattle.reg_base.specs.declared.line.Line.{Line}
 use Rattle.desk_model.specs.State.{Desk}
-use Rattle.desk_model.specs.Laws.{BalancesHold}
-use Rattle.desk_model.proofs.LawLemmas as laws
+use Rattle.desk_model.specs.Laws.{LawsHold}
+use Rattle.desk_model.proofs.RepeatLemmas as laws
 
-pub BalancesHold-always : (desk : Desk) (lines : List Line) → BalancesHold desk lines
-BalancesHold-always = laws.BalancesHold-always
+pub LawsHold-always : (desk : Desk) (lines : List Line) → LawsHold desk lines
+LawsHold-always = laws.LawsHold-always

@@ -17,15 +17,17 @@ use Rattle.desk_words.specs.declared.reply.Reply.TheVariants.{Done}
 use Rattle.desk_words.specs.declared.reply.Answer.{Answer}
 use Rattle.desk_words.specs.declared.reply.Answer.TheVariants.{Balance as BalanceAnswer}
 use Rattle.desk_words.specs.declared.reply.Refusal.{Refusal}
-use Rattle.desk_words.specs.declared.reply.Refusal.TheVariants.{UnknownClerk, BadField}
+use Rattle.desk_words.specs.declared.reply.Refusal.TheVariants.{UnknownClerk, NotAllowed, BadField}
 use Rattle.desk_words.specs.declared.reply.Field.TheVariants.{Register as RegisterField}
 use Rattle.desk_words.specs.Reading.{request}
 use Rattle.desk_model.specs.State.{Desk, Command}
-use Rattle.desk_model.specs.Plans.{Question, Deed}
+use Rattle.desk_model.specs.Plans.{Question, Meaning}
 use Rattle.desk_model.specs.Questions.{everything, question_balance}
-use Rattle.desk_model.specs.Effects.{Effect, Stop, refuses, or_stop}
+use Rattle.desk_model.specs.Effects.{Effect}
+use Rattle.desk_model.specs.Stops.{Stop, refuses, or_stop}
 use Rattle.desk_model.specs.Serial.{question_answer}
-use Rattle.desk_model.specs.Serial.{question_effect, effect_of, is_clerk, is_batch}
+use Rattle.desk_model.specs.Serial.{question_effect, effect_of}
+use Rattle.desk_model.specs.Clerks.{is_clerk, is_allowed, is_batch}
 use Rattle.desk_model.specs.Desk.{meaning_at, command_at, effect_at, event_of, step}
 use Rattle.desk_model.specs.Answers.{is_blank_line, refusal_event, event_of_reading, line_event}
 use Rattle.desk_model.specs.Answers.{line_desk, desk_after}
@@ -99,18 +101,24 @@ module _ (desk : Desk) (b : BalanceRequest) (rows : List SumRow) (scales : List 
       IsBalance desk b rows scales
   unfolding step effect_of question_effect
   step-IsBalance h = at (is_clerk desk.setting.config b.clerk)
+      (is_allowed desk.setting.config b.clerk meaning.right)
       (question_answer desk.serial (question_balance desk.setting.config b)) refl h
     where
-      at : (known : Bool) (answer : Result Answer Refusal) →
+      meaning : Meaning
+      meaning = meaning_at desk (Balance b)
+
+      at : (known allowed : Bool) (answer : Result Answer Refusal) →
           question_answer desk.serial (question_balance desk.setting.config b) ≡ answer →
-          (event_of desk (meaning_at desk (Balance b)).deed (command_at desk (Balance b))
-          (unless known (refuses UnknownClerk) >>= λ _. or_stop
+          (event_of desk meaning (command_at desk (Balance b))
+          (unless known (refuses UnknownClerk) >>= λ _. unless allowed
+          (refuses (NotAllowed meaning.right)) >>= λ _. or_stop
           (answer >>= λ a. Ok (record { state = desk.serial; works = []; answer = a })))).reply ≡
           Done (BalanceAnswer rows scales) → IsBalance desk b rows scales
-      at true (Ok a) q e = let same : a ≡ BalanceAnswer rows scales =
+      at true true (Ok a) q e = let same : a ≡ BalanceAnswer rows scales =
           cc in question-IsBalance (q ∙ ap Ok same)
-      at true (Err f) q e = cc
-      at false answer q e = cc
+      at true true (Err f) q e = cc
+      at true false answer q e = cc
+      at false allowed answer q e = cc
 
 -- a line that is a balance is answered by one
 line-IsBalance : (desk : Desk) (line : Line) (b : BalanceRequest) (rows : List SumRow)
@@ -133,17 +141,17 @@ BalancesHold-always desk lines =
 
 -- ---- refusals
 
-event_of-refusal : (desk : Desk) (deed : Deed) (command : Command) (effect : Result Effect Stop) →
-    IsRefusal (event_of desk deed command effect).reply →
-    (event_of desk deed command effect).desk ≡ desk
-event_of-refusal desk deed command (Ok effect) h = absurd h
-event_of-refusal desk deed command (Err stop) h = refl
+event_of-refusal : (desk : Desk) (meaning : Meaning) (command : Command)
+    (effect : Result Effect Stop) → IsRefusal (event_of desk meaning command effect).reply →
+    (event_of desk meaning command effect).desk ≡ desk
+event_of-refusal desk meaning command (Ok effect) h = absurd h
+event_of-refusal desk meaning command (Err stop) h = refl
 
 -- a request that is refused leaves the desk
 pub step-refusal : (desk : Desk) (r : Request) → IsRefusal (step desk r).reply →
     (step desk r).desk ≡ desk
 unfolding step
-step-refusal desk r h = event_of-refusal desk (meaning_at desk r).deed (command_at desk r)
+step-refusal desk r h = event_of-refusal desk (meaning_at desk r) (command_at desk r)
     (effect_at desk r) h
 
 event-refusal : (desk : Desk) (reading : Result Request WordFault) →

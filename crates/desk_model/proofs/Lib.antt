@@ -1,6 +1,9 @@
 pub mod ErrorLemmas
 pub mod ForAbove
 pub mod LawLemmas
+pub mod NumberLemmas
+pub mod RepeatLemmas
 pub mod ReplayLemmas
 pub mod ScaleLemmas
+pub mod StepCases
 pub mod WorkedRows

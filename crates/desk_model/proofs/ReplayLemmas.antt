@@ -12,17 +12,20 @@ use Rattle.reg_base.specs.Results.{◌>>=◌, unless}
 use Rattle.desk_words.specs.declared.request.Request.{Request}
 use Rattle.desk_words.specs.declared.reply.Refusal.{Refusal}
 use Rattle.desk_words.specs.declared.request.Request.TheVariants.{Manual, Balance}
-use Rattle.desk_words.specs.declared.reply.Refusal.TheVariants.{UnknownClerk, Limit}
+use Rattle.desk_words.specs.declared.reply.Refusal.TheVariants.{UnknownClerk, NotAllowed, Limit}
+use Rattle.desk_words.specs.RequestTexts.{request_text}
 use Rattle.desk_words.specs.declared.reply.Limit.TheVariants.{Numbers}
 use Rattle.desk_model.specs.State.{Setting, State, Desk}
-use Rattle.desk_model.specs.Documents.{document_at}
+use Rattle.reg_base.specs.Documents.{document_at}
 use Rattle.desk_model.specs.declared.plan.Plan.{Plan}
 use Rattle.desk_model.specs.Plans.{Sight, Change, Deed, changes, asks_register}
-use Rattle.desk_model.specs.Effects.{Effect, refuses, Tests, no_tests, or_stop}
+use Rattle.desk_model.specs.Effects.{Effect, Tests, no_tests}
+use Rattle.desk_model.specs.Stops.{Stop, refuses, or_stop}
 use Rattle.desk_model.specs.Serial.{sight_of}
 use Rattle.desk_model.specs.Effects.{effect_with}
 use Rattle.desk_model.specs.Serial.{document_from, plan_effect, change_effect}
-use Rattle.desk_model.specs.Serial.{deed_effect, effect_of, is_clerk, is_drawn, bad_number}
+use Rattle.desk_model.specs.Serial.{deed_effect, effect_of, is_drawn, bad_number}
+use Rattle.desk_model.specs.Clerks.{is_clerk, is_allowed}
 use Rattle.desk_model.specs.Serial.{or_fault, serial}
 use Rattle.desk_model.specs.Desk.{meaning_at, command_at, tests_of, number_is_left, next_number}
 use Rattle.desk_model.specs.Desk.{greatest_number}
@@ -104,12 +107,12 @@ unless-passed false fault h = cc
 
 -- a request that a desk accepts and that draws a number had one left
 number-left : (desk : Desk) (request : Request) (effect : Effect) →
-    deed_effect (tests_of desk (meaning_at desk request)) desk.setting desk.serial
+    deed_effect (tests_of desk (meaning_at desk request) (request_text request)) desk.setting desk.serial
     (command_at desk request).number (meaning_at desk request).deed ≡ Ok effect →
     number_is_left desk.serial (meaning_at desk request).draws ≡ true
 number-left desk (Manual m) effect h =
     let passes = change_effect-passes
-    (tests_of desk (meaning_at desk (Manual m))) desk.setting desk.serial
+    (tests_of desk (meaning_at desk (Manual m)) (request_text (Manual m))) desk.setting desk.serial
     (command_at desk (Manual m)).number _ effect h in
     unless-passed (number_is_left desk.serial (meaning_at desk (Manual m)).draws)
     (Limit Numbers greatest_number) passes.passed
@@ -131,22 +134,26 @@ or_stop-Ok (Err refusal) effect h = cc
 pub Replays-always : (desk : Desk) (request : Request) → Replays desk request
 unfolding effect_of serial
 Replays-always desk request = known (is_clerk desk.setting.config (meaning_at desk request).clerk)
+    (is_allowed desk.setting.config (meaning_at desk request).clerk (meaning_at desk request).right)
+    (tests_of desk (meaning_at desk request) (request_text request)).number
   where
-    known : (b : Bool) (effect : Effect) → AreNumbered desk.serial
-        → (unless b (refuses UnknownClerk) >>= λ _. or_stop
-        (deed_effect (tests_of desk (meaning_at desk request)) desk.setting desk.serial
-        (command_at desk request).number (meaning_at desk request).deed)) ≡ Ok effect
+    known : (b allowed : Bool) (numbered : Result (Unit {0}) Stop) (effect : Effect) →
+        AreNumbered desk.serial
+        → (unless b (refuses UnknownClerk) >>= λ _. unless allowed
+        (refuses (NotAllowed (meaning_at desk request).right)) >>= λ _. numbered >>= λ _. or_stop
+        (deed_effect (tests_of desk (meaning_at desk request) (request_text request)) desk.setting
+        desk.serial (command_at desk request).number (meaning_at desk request).deed)) ≡ Ok effect
         → (unless (is_drawn desk.serial (meaning_at desk request).draws
         (command_at desk request).number) bad_number >>= λ _. or_fault
-        (unless b (refuses UnknownClerk) >>= λ _. or_stop
+        (unless b (refuses UnknownClerk) >>= λ _. unless allowed
+        (refuses (NotAllowed (meaning_at desk request).right)) >>= λ _. or_stop
         (deed_effect no_tests desk.setting desk.serial (command_at desk request).number
         (meaning_at desk request).deed))) ≡ Ok effect
-    known true effect numbered h =
-        let tried = or_stop-Ok (deed_effect
-        (tests_of desk (meaning_at desk request)) desk.setting desk.serial
+    known true true (Ok u) effect numbered h =
+        let tests = tests_of desk (meaning_at desk request) (request_text request) in
+        let tried = or_stop-Ok (deed_effect tests desk.setting desk.serial
         (command_at desk request).number (meaning_at desk request).deed) effect h in
-        let dropped = deed_effect-no_tests
-        (tests_of desk (meaning_at desk request)) desk.setting desk.serial
+        let dropped = deed_effect-no_tests tests desk.setting desk.serial
         (command_at desk request).number (meaning_at desk request).deed effect tried in
         let drawn = is_drawn-next desk.serial (meaning_at desk request).draws numbered
         (number-left desk request effect tried) in
@@ -154,4 +161,6 @@ Replays-always desk request = known (is_clerk desk.setting.config (meaning_at de
         (or_stop (deed_effect no_tests desk.setting desk.serial (command_at desk request).number
         (meaning_at desk request).deed))) drawn
         ∙ ap (λ t. or_fault (or_stop t)) dropped
-    known false effect numbered h = cc
+    known true true (Err stop) effect numbered h = cc
+    known true false t effect numbered h = cc
+    known false allowed t effect numbered h = cc

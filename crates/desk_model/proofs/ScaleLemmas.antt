@@ -25,7 +25,15 @@ use Rattle.desk_words.specs.declared.request.RecordText.TheVariants.{Register as
 use Rattle.desk_words.specs.declared.request.RecordText.TheVariants.{Ledger as InLedger}
 use Rattle.desk_words.specs.declared.reply.Answer.TheVariants.{Balance as BalanceAnswer}
 use Rattle.desk_words.specs.declared.reply.Refusal.{Refusal}
-use Rattle.desk_words.specs.declared.reply.Refusal.TheVariants.{UnknownClerk, BadField, Limit, Rule}
+use Rattle.desk_words.specs.declared.reply.Refusal.TheVariants.{UnknownClerk, NotAllowed, Stale}
+use Rattle.desk_words.specs.declared.reply.Refusal.TheVariants.{BadField, Limit, Rule}
+use Rattle.desk_words.specs.RequestTexts.{request_text}
+use Rattle.desk_model.specs.declared.last.Last.{Last}
+use Rattle.desk_model.specs.LastRequests.{last_of, same_number, number_after, number_test}
+use Rattle.std.specs.Str.{bytes_eq}
+use Rattle.std.specs.Ordering.{nat_cmp, match_ordering}
+use Rattle.std.specs.declared.cmp.Ordering.{Ordering}
+use Rattle.std.specs.declared.cmp.Ordering.TheVariants.{Less, Equal, Greater}
 use Rattle.desk_words.specs.declared.reply.Limit.TheVariants.{Numbers}
 use Rattle.desk_words.specs.declared.reply.Field.TheVariants.{Space, Values, Sums, Kind}
 use Rattle.desk_words.specs.declared.reply.Field.TheVariants.{Register as RegisterField}
@@ -36,17 +44,18 @@ use Rattle.desk_model.specs.State.{Setting, State, Desk, Command}
 use Rattle.desk_model.specs.declared.plan.Source.{Source}
 use Rattle.desk_model.specs.declared.plan.Source.TheVariants.{ByHand}
 use Rattle.desk_model.specs.declared.plan.Plan.{Plan}
-use Rattle.desk_model.specs.Plans.{Sight, Change, Question, Deed}
+use Rattle.desk_model.specs.Plans.{Sight, Change, Question, Meaning}
 use Rattle.desk_model.specs.Manuals.{value_in, amount_in, values_for, takes_mark}
 use Rattle.desk_model.specs.Manuals.{record_in_register, given_record, space_of, set_records}
 use Rattle.desk_model.specs.Manuals.{with_sets, are_distinct, given_sets, plan_manual}
 use Rattle.desk_model.specs.RecordSets.{record_set, record_sets, is_made}
 use Rattle.desk_model.specs.Questions.{everything, question_balance}
-use Rattle.desk_model.specs.Effects.{Effect, refuses, Tests, or_stop}
+use Rattle.desk_model.specs.Effects.{Effect, Tests}
+use Rattle.desk_model.specs.Stops.{Stop, refuses, or_stop}
 use Rattle.desk_model.specs.Serial.{sight_of, document_from}
-use Rattle.desk_model.specs.Effects.{answer_of}
 use Rattle.desk_model.specs.Serial.{plan_effect, change_effect, question_answer}
-use Rattle.desk_model.specs.Serial.{question_effect, deed_effect, effect_of, is_clerk}
+use Rattle.desk_model.specs.Serial.{question_effect, deed_effect, effect_of}
+use Rattle.desk_model.specs.Clerks.{is_clerk, is_allowed}
 use Rattle.desk_model.specs.Desk.{meaning_at, command_at, tests_of, event_of, step, number_is_left}
 use Rattle.desk_model.specs.Desk.{greatest_number}
 use Rattle.desk_model.proofs.ErrorLemmas.{IfOk-last, IfErr-then, IfErr-unless, IfErr-some_or}
@@ -134,9 +143,6 @@ record AreFine (tried : Result Effect Refusal) : Type 0 where
   answer : IfOk tried (λ effect. AnswerHasScales effect.answer)
   refusal : IfErr tried RefusalHasScales
 
-answer_of-scales : (doc : Doc) (source : Source) → AnswerHasScales (answer_of doc source)
-answer_of-scales doc (ByHand given) = tt
-
 change_effect-fine : (tests : Tests) (setting : Setting) (state : State) (number : ℕ)
     (change : Change) → ((plan : Plan) → IfErr (tests.plan plan) RefusalHasScales) →
     ((sight : Sight) → IfErr (change.plan sight) RefusalHasScales) →
@@ -149,7 +155,7 @@ change_effect-fine tests setting state number change of_tests of_plan =
           IfOk-last Answers (change.plan (sight_of state number change)) _
           (λ plan. IfOk-last Answers (tests.plan plan) _
           (λ u. IfOk-last Answers (document_from setting state plan.doc plan.source) _
-          (λ after. answer_of-scales plan.doc plan.source)));
+          (λ after. tt)));
       refusal =
           IfErr-then RefusalHasScales (change.plan (sight_of state number change)) _
           (of_plan (sight_of state number change))
@@ -224,10 +230,10 @@ module _ (config : Config) (state : State) (b : BalanceRequest) where
 
 -- the deed of each request
 deed-fine : (desk : Desk) (request : Request) →
-    AreFine (deed_effect (tests_of desk (meaning_at desk request)) desk.setting desk.serial
+    AreFine (deed_effect (tests_of desk (meaning_at desk request) (request_text request)) desk.setting desk.serial
     (command_at desk request).number (meaning_at desk request).deed)
 deed-fine desk (Manual m) =
-    change_effect-fine (tests_of desk (meaning_at desk (Manual m))) desk.setting desk.serial
+    change_effect-fine (tests_of desk (meaning_at desk (Manual m)) (request_text (Manual m))) desk.setting desk.serial
     (command_at desk (Manual m)).number
     (record { doc = m.doc; plan = plan_manual desk.setting.config m })
     (λ plan. IfErr-unless RefusalHasScales
@@ -236,20 +242,58 @@ deed-fine desk (Manual m) =
     (plan_manual-scales desk.setting.config m)
 deed-fine desk (Balance b) = question-fine desk.setting.config desk.serial b
 
-event-scales : (desk : Desk) (deed : Deed) (command : Command) (tried : Result Effect Refusal) →
-    AreFine tried → HasScales (event_of desk deed command (or_stop tried)).reply
-event-scales desk deed command (Ok effect) fine = fine.answer
-event-scales desk deed command (Err refusal) fine = fine.refusal
+event-scales : (desk : Desk) (meaning : Meaning) (command : Command)
+    (tried : Result Effect Refusal) → AreFine tried →
+    HasScales (event_of desk meaning command (or_stop tried)).reply
+event-scales desk meaning command (Ok effect) fine = fine.answer
+event-scales desk meaning command (Err refusal) fine = fine.refusal
+
+-- a number is refused without one, and a repeat is acknowledged without one
+number_after-scales : (desk : Desk) (meaning : Meaning) (command : Command) (last : Option Last)
+    (number : ℕ) (text : List ℕ) (done : Result Effect Stop) →
+    HasScales (event_of desk meaning command done).reply →
+    HasScales (event_of desk meaning command (number_after last number text >>= λ _. done)).reply
+number_after-scales desk meaning command None number text done fine = fine
+number_after-scales desk meaning command (Some last) number text done fine =
+    at (nat_cmp number last.number) (bytes_eq text last.text)
+  where
+    at : (order : Ordering) (same : Bool) → HasScales (event_of desk meaning command
+        (match_ordering order (Err (refuses (Stale last.number)))
+        (same_number same last.acknowledgement) (Ok tt) >>= λ _. done)).reply
+    at Less same = tt
+    at Equal true = tt
+    at Equal false = tt
+    at Greater same = fine
+
+number_test-scales : (desk : Desk) (meaning : Meaning) (command : Command) (lasts : List Last)
+    (clerk : List ℕ) (number : Option ℕ) (text : List ℕ) (done : Result Effect Stop) →
+    HasScales (event_of desk meaning command done).reply →
+    HasScales (event_of desk meaning command
+    (number_test lasts clerk number text >>= λ _. done)).reply
+number_test-scales desk meaning command lasts clerk None text done fine = fine
+number_test-scales desk meaning command lasts clerk (Some number) text done fine =
+    number_after-scales desk meaning command (last_of clerk lasts) number text done fine
 
 pub HasScales-step : (desk : Desk) (request : Request) → HasScales (step desk request).reply
 unfolding step effect_of
-HasScales-step desk request = at (is_clerk desk.setting.config (meaning_at desk request).clerk)
+HasScales-step desk request = at (is_clerk desk.setting.config meaning.clerk)
+    (is_allowed desk.setting.config meaning.clerk meaning.right)
   where
-    at : (known : Bool) → HasScales
-        (event_of desk (meaning_at desk request).deed (command_at desk request)
-        (unless known (refuses UnknownClerk) >>= λ _. or_stop
-        (deed_effect (tests_of desk (meaning_at desk request)) desk.setting desk.serial
-        (command_at desk request).number (meaning_at desk request).deed))).reply
-    at true = event-scales desk (meaning_at desk request).deed (command_at desk request) _
-        (deed-fine desk request)
-    at false = tt
+    meaning : Meaning
+    meaning = meaning_at desk request
+
+    done : Result Effect Refusal
+    done = deed_effect (tests_of desk meaning (request_text request)) desk.setting desk.serial
+        (command_at desk request).number meaning.deed
+
+    at : (known allowed : Bool) → HasScales
+        (event_of desk meaning (command_at desk request)
+        (unless known (refuses UnknownClerk) >>= λ _. unless allowed
+        (refuses (NotAllowed meaning.right)) >>= λ _.
+        number_test desk.serial.lasts meaning.clerk meaning.number (request_text request) >>= λ _.
+        or_stop done)).reply
+    at true true = number_test-scales desk meaning (command_at desk request) desk.serial.lasts
+        meaning.clerk meaning.number (request_text request) (or_stop done)
+        (event-scales desk meaning (command_at desk request) done (deed-fine desk request))
+    at true false = tt
+    at false allowed = tt

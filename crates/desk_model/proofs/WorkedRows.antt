@@ -8,6 +8,8 @@ use Rattle.reg_base.specs.declared.records.DocState.TheVariants.{Posted}
 use Rattle.reg_base.specs.declared.cut.Cut.{Cut}
 use Rattle.reg_base.specs.declared.cut.Cut.TheVariants.{BeforeDate, ThroughDate}
 use Rattle.reg_base.specs.Codes.{is_code}
+use Rattle.reg_base.specs.Rights.{right_word}
+use Rattle.reg_base.specs.declared.right.Right.TheVariants.{Manual as ManualRight, Read}
 use Rattle.reg_base.specs.Numbers.{parse_num, digits_from, decimals_from, last_digits_from}
 use Rattle.reg_base.specs.Numbers.{units_of}
 use Rattle.reg_base.specs.Results.{◌>>=◌}
@@ -19,9 +21,11 @@ use Rattle.desk_words.specs.declared.request.RecordText.{RecordText}
 use Rattle.desk_words.specs.declared.request.RecordText.TheVariants.{Register as InRegister}
 use Rattle.desk_words.specs.declared.request.RecordText.TheVariants.{Ledger as InLedger}
 use Rattle.desk_words.specs.declared.reply.Reply.TheVariants.{Done, Refused}
-use Rattle.desk_words.specs.declared.reply.Answer.TheVariants.{Document as DocumentAnswer}
+use Rattle.desk_words.specs.declared.reply.Acknowledgement.TheVariants.{Document as DocumentStands}
+use Rattle.desk_words.specs.declared.reply.Answer.TheVariants.{Acknowledged}
 use Rattle.desk_words.specs.declared.reply.Answer.TheVariants.{Balance as BalanceAnswer}
-use Rattle.desk_words.specs.declared.reply.Refusal.TheVariants.{UnknownClerk, BadField, Limit}
+use Rattle.desk_words.specs.declared.reply.Refusal.TheVariants.{UnknownClerk, NotAllowed, Stale}
+use Rattle.desk_words.specs.declared.reply.Refusal.TheVariants.{NumberReused, BadField, Limit}
 use Rattle.desk_words.specs.declared.reply.Limit.TheVariants.{Numbers}
 use Rattle.desk_words.specs.declared.reply.Field.TheVariants.{Space, Values, Sums, Kind}
 use Rattle.desk_model.specs.State.{Setting, Desk, first_state, first_desk}
@@ -33,6 +37,9 @@ use Rattle.desk_model.specs.Effects.{Effect}
 use Rattle.desk_model.specs.Serial.{plan_effect, change_effect, question_answer}
 use Rattle.desk_model.specs.Serial.{question_effect, effect_of, SerialFault, bad_number, serial}
 use Rattle.desk_model.specs.Desk.{step}
+use Rattle.desk_model.specs.declared.last.Last.{Last}
+use Rattle.desk_model.specs.Stops.{Stop, refuses, repeats}
+use Rattle.desk_model.specs.LastRequests.{number_test}
 
 -- a register of goods by item, with a quantity of three decimals and an amount of two, and one
 -- clerk
@@ -50,7 +57,7 @@ shop = record {
     ledgers = record { name = codes "main"; scale = 2; split = false; accounts = [] } ∷ [];
     kinds = [];
     sequences = [];
-    clerks = record { name = codes "anna"; rights = [] } ∷ [];
+    clerks = record { name = codes "anna"; rights = ManualRight ∷ Read ∷ [] } ∷ [];
   };
 }
 
@@ -61,10 +68,10 @@ morning = 758_192_400
 of_register : Mark → List (List ℕ) → List (List ℕ) → RecordText
 of_register mark values sums = InRegister (record { mark = mark; sums = sums; values = values })
 
-manual : List SetText → Request
-manual sets = Manual (record {
+manual : ℕ → List SetText → Request
+manual nr sets = Manual (record {
   clerk = codes "anna";
-  no = 1;
+  no = nr;
   doc = None;
   key = None;
   date = morning;
@@ -74,7 +81,7 @@ manual sets = Manual (record {
 })
 
 into_goods : List RecordText → Request
-into_goods records = manual (record { space = codes "goods"; records = records } ∷ [])
+into_goods records = manual 1 (record { space = codes "goods"; records = records } ∷ [])
 
 balance : List ℕ → Cut → Request
 balance clerk cut = Balance
@@ -87,9 +94,15 @@ balance clerk cut = Balance
       tx = None;
     })
 
+nails_under : ℕ → Request
+nails_under nr = manual nr (record {
+  space = codes "goods";
+  records = of_register Receipt (codes "nail" ∷ [])
+      (codes "10.000" ∷ codes "50.00" ∷ []) ∷ [];
+} ∷ [])
+
 nails : Request
-nails = into_goods (of_register Receipt (codes "nail" ∷ [])
-    (codes "10.000" ∷ codes "50.00" ∷ []) ∷ [])
+nails = nails_under 1
 
 -- the lines of the records in the first register, by document
 map_lines : Desk → List (List ℕ)
@@ -108,12 +121,12 @@ after_nails : Desk
 after_nails = (step empty nails).desk
 
 -- the first document gets number 1
-receipt_is_posted : (step empty nails).reply ≡ Done (DocumentAnswer true 1 Posted)
+receipt_is_posted : (step empty nails).reply ≡ Done (Acknowledged (DocumentStands true 1 Posted))
 unfolding step effect_of change_effect plan_effect question_answer question_effect record_set
     record_sets
     plan_manual given_sets set_records space_of given_record record_in_register question_balance
-    sum_rows is_code parse_num digits_from decimals_from last_digits_from units_of shop morning
-    of_register manual into_goods balance nails empty after_nails map_lines
+    sum_rows is_code right_word parse_num digits_from decimals_from last_digits_from units_of shop morning
+    of_register manual into_goods balance nails_under nails empty after_nails map_lines
 receipt_is_posted = refl
 
 -- before its date the receipt is no row
@@ -122,8 +135,8 @@ no_row_before : (step after_nails (balance (codes "anna") (BeforeDate morning)))
 unfolding step effect_of change_effect plan_effect question_answer question_effect record_set
     record_sets
     plan_manual given_sets set_records space_of given_record record_in_register question_balance
-    sum_rows is_code parse_num digits_from decimals_from last_digits_from units_of shop morning
-    of_register manual into_goods balance nails empty after_nails map_lines
+    sum_rows is_code right_word parse_num digits_from decimals_from last_digits_from units_of shop morning
+    of_register manual into_goods balance nails_under nails empty after_nails map_lines
 no_row_before = refl
 
 -- through its date it is one row
@@ -133,17 +146,17 @@ one_row_through : (step after_nails (balance (codes "anna") (ThroughDate morning
 unfolding step effect_of change_effect plan_effect question_answer question_effect record_set
     record_sets
     plan_manual given_sets set_records space_of given_record record_in_register question_balance
-    sum_rows is_code parse_num digits_from decimals_from last_digits_from units_of shop morning
-    of_register manual into_goods balance nails empty after_nails map_lines
+    sum_rows is_code right_word parse_num digits_from decimals_from last_digits_from units_of shop morning
+    of_register manual into_goods balance nails_under nails empty after_nails map_lines
 one_row_through = refl
 
 -- the second document gets number 2
-next_number : (step after_nails nails).reply ≡ Done (DocumentAnswer true 2 Posted)
+next_number : (step after_nails (nails_under 2)).reply ≡ Done (Acknowledged (DocumentStands true 2 Posted))
 unfolding step effect_of change_effect plan_effect question_answer question_effect record_set
     record_sets
     plan_manual given_sets set_records space_of given_record record_in_register question_balance
-    sum_rows is_code parse_num digits_from decimals_from last_digits_from units_of shop morning
-    of_register manual into_goods balance nails empty after_nails map_lines
+    sum_rows is_code right_word parse_num digits_from decimals_from last_digits_from units_of shop morning
+    of_register manual into_goods balance nails_under nails empty after_nails map_lines
 next_number = refl
 
 -- a clerk that is not there is refused
@@ -152,30 +165,30 @@ unknown_clerk : (step after_nails (balance (codes "zoe") (BeforeDate morning))).
 unfolding step effect_of change_effect plan_effect question_answer question_effect record_set
     record_sets
     plan_manual given_sets set_records space_of given_record record_in_register question_balance
-    sum_rows is_code parse_num digits_from decimals_from last_digits_from units_of shop morning
-    of_register manual into_goods balance nails empty after_nails map_lines
+    sum_rows is_code right_word parse_num digits_from decimals_from last_digits_from units_of shop morning
+    of_register manual into_goods balance nails_under nails empty after_nails map_lines
 unknown_clerk = refl
 
 -- a space that is not there is refused, and the desk stays
 unknown_space : step after_nails
-    (manual (record { space = codes "stock"; records = [] } ∷ [])) ≡ record
+    (manual 2 (record { space = codes "stock"; records = [] } ∷ [])) ≡ record
     { reply = Refused (BadField Space); desk = after_nails; commits = [] }
 unfolding step effect_of change_effect plan_effect question_answer question_effect record_set
     record_sets
     plan_manual given_sets set_records space_of given_record record_in_register question_balance
-    sum_rows is_code parse_num digits_from decimals_from last_digits_from units_of shop morning
-    of_register manual into_goods balance nails empty after_nails map_lines
+    sum_rows is_code right_word parse_num digits_from decimals_from last_digits_from units_of shop morning
+    of_register manual into_goods balance nails_under nails empty after_nails map_lines
 unknown_space = refl
 
 -- a space that stands twice is refused
 space_twice : (step empty
-    (manual (record { space = codes "goods"; records = [] } ∷ record
+    (manual 1 (record { space = codes "goods"; records = [] } ∷ record
     { space = codes "goods"; records = [] } ∷ []))).reply ≡ Refused (BadField Space)
 unfolding step effect_of change_effect plan_effect question_answer question_effect record_set
     record_sets
     plan_manual given_sets set_records space_of given_record record_in_register question_balance
-    sum_rows is_code parse_num digits_from decimals_from last_digits_from units_of shop morning
-    of_register manual into_goods balance nails empty after_nails map_lines
+    sum_rows is_code right_word parse_num digits_from decimals_from last_digits_from units_of shop morning
+    of_register manual into_goods balance nails_under nails empty after_nails map_lines
 space_twice = refl
 
 -- a value that is no code is refused before a wrong sum
@@ -185,8 +198,8 @@ wrong_value : (step empty
 unfolding step effect_of change_effect plan_effect question_answer question_effect record_set
     record_sets
     plan_manual given_sets set_records space_of given_record record_in_register question_balance
-    sum_rows is_code parse_num digits_from decimals_from last_digits_from units_of shop morning
-    of_register manual into_goods balance nails empty after_nails map_lines
+    sum_rows is_code right_word parse_num digits_from decimals_from last_digits_from units_of shop morning
+    of_register manual into_goods balance nails_under nails empty after_nails map_lines
 wrong_value = refl
 
 -- a number with too many decimals is refused before a wrong mark
@@ -196,8 +209,8 @@ wrong_sum : (step empty (into_goods
 unfolding step effect_of change_effect plan_effect question_answer question_effect record_set
     record_sets
     plan_manual given_sets set_records space_of given_record record_in_register question_balance
-    sum_rows is_code parse_num digits_from decimals_from last_digits_from units_of shop morning
-    of_register manual into_goods balance nails empty after_nails map_lines
+    sum_rows is_code right_word parse_num digits_from decimals_from last_digits_from units_of shop morning
+    of_register manual into_goods balance nails_under nails empty after_nails map_lines
 wrong_sum = refl
 
 -- a turn is no record of a register with balances
@@ -207,8 +220,8 @@ wrong_kind : (step empty (into_goods
 unfolding step effect_of change_effect plan_effect question_answer question_effect record_set
     record_sets
     plan_manual given_sets set_records space_of given_record record_in_register question_balance
-    sum_rows is_code parse_num digits_from decimals_from last_digits_from units_of shop morning
-    of_register manual into_goods balance nails empty after_nails map_lines
+    sum_rows is_code right_word parse_num digits_from decimals_from last_digits_from units_of shop morning
+    of_register manual into_goods balance nails_under nails empty after_nails map_lines
 wrong_kind = refl
 
 -- a record of a ledger is refused in a register
@@ -218,8 +231,8 @@ ledger_form : (step empty
 unfolding step effect_of change_effect plan_effect question_answer question_effect record_set
     record_sets
     plan_manual given_sets set_records space_of given_record record_in_register question_balance
-    sum_rows is_code parse_num digits_from decimals_from last_digits_from units_of shop morning
-    of_register manual into_goods balance nails empty after_nails map_lines
+    sum_rows is_code right_word parse_num digits_from decimals_from last_digits_from units_of shop morning
+    of_register manual into_goods balance nails_under nails empty after_nails map_lines
 ledger_form = refl
 
 -- where the greatest number was drawn no document is made
@@ -228,8 +241,8 @@ no_number_left : (step (record empty { serial = record first_state { top = 4_294
 unfolding step effect_of change_effect plan_effect question_answer question_effect record_set
     record_sets
     plan_manual given_sets set_records space_of given_record record_in_register question_balance
-    sum_rows is_code parse_num digits_from decimals_from last_digits_from units_of shop morning
-    of_register manual into_goods balance nails empty after_nails map_lines
+    sum_rows is_code right_word parse_num digits_from decimals_from last_digits_from units_of shop morning
+    of_register manual into_goods balance nails_under nails empty after_nails map_lines
 no_number_left = refl
 
 -- a record of zeros is not made, and takes no line
@@ -240,8 +253,8 @@ zeros_are_not_made : map_lines
 unfolding step effect_of change_effect plan_effect question_answer question_effect record_set
     record_sets
     plan_manual given_sets set_records space_of given_record record_in_register question_balance
-    sum_rows is_code parse_num digits_from decimals_from last_digits_from units_of shop morning
-    of_register manual into_goods balance nails empty after_nails map_lines
+    sum_rows is_code right_word parse_num digits_from decimals_from last_digits_from units_of shop morning
+    of_register manual into_goods balance nails_under nails empty after_nails map_lines
 zeros_are_not_made = refl
 
 -- a document has a list of entries for each ledger
@@ -249,17 +262,18 @@ ledgers_are_there : map (λ d. d.sets.ledgers) after_nails.serial.documents ≡ 
 unfolding numbers step serial effect_of change_effect plan_effect question_answer question_effect
     record_set
     record_sets plan_manual given_sets set_records space_of given_record record_in_register
-    question_balance sum_rows is_code parse_num digits_from decimals_from last_digits_from units_of
-    shop morning of_register manual into_goods balance nails empty after_nails map_lines
+    question_balance sum_rows is_code right_word parse_num digits_from decimals_from last_digits_from units_of
+    shop morning of_register manual into_goods balance nails_under nails empty after_nails map_lines
 ledgers_are_there = refl
 
 -- what a step commits is the request under its number
-commits : (step after_nails nails).commits ≡ (record { number = 2; request = nails } ∷ []) ∷ []
+commits : (step after_nails (nails_under 2)).commits
+    ≡ (record { number = 2; request = nails_under 2 } ∷ []) ∷ []
 unfolding numbers step serial effect_of change_effect plan_effect question_answer question_effect
     record_set
     record_sets plan_manual given_sets set_records space_of given_record record_in_register
-    question_balance sum_rows is_code parse_num digits_from decimals_from last_digits_from units_of
-    shop morning of_register manual into_goods balance nails empty after_nails map_lines
+    question_balance sum_rows is_code right_word parse_num digits_from decimals_from last_digits_from units_of
+    shop morning of_register manual into_goods balance nails_under nails empty after_nails map_lines
 commits = refl
 
 -- the serial machine takes numbers in any order, and keeps the greatest: here 2 before 1
@@ -269,8 +283,8 @@ second_first : numbers (serial shop first_state
 unfolding numbers step serial effect_of change_effect plan_effect question_answer question_effect
     record_set
     record_sets plan_manual given_sets set_records space_of given_record record_in_register
-    question_balance sum_rows is_code parse_num digits_from decimals_from last_digits_from units_of
-    shop morning of_register manual into_goods balance nails empty after_nails map_lines
+    question_balance sum_rows is_code right_word parse_num digits_from decimals_from last_digits_from units_of
+    shop morning of_register manual into_goods balance nails_under nails empty after_nails map_lines
 second_first = refl
 
 -- it takes no number twice, and none but 0 for a request that draws none
@@ -278,16 +292,16 @@ taken : serial shop after_nails.serial (record { number = 1; request = nails }) 
 unfolding numbers step serial effect_of change_effect plan_effect question_answer question_effect
     record_set
     record_sets plan_manual given_sets set_records space_of given_record record_in_register
-    question_balance sum_rows is_code parse_num digits_from decimals_from last_digits_from units_of
-    shop morning of_register manual into_goods balance nails empty after_nails map_lines
+    question_balance sum_rows is_code right_word parse_num digits_from decimals_from last_digits_from units_of
+    shop morning of_register manual into_goods balance nails_under nails empty after_nails map_lines
 taken = refl
 
 not_drawn : serial shop first_state (record { number = 0; request = nails }) ≡ Err bad_number
 unfolding numbers step serial effect_of change_effect plan_effect question_answer question_effect
     record_set
     record_sets plan_manual given_sets set_records space_of given_record record_in_register
-    question_balance sum_rows is_code parse_num digits_from decimals_from last_digits_from units_of
-    shop morning of_register manual into_goods balance nails empty after_nails map_lines
+    question_balance sum_rows is_code right_word parse_num digits_from decimals_from last_digits_from units_of
+    shop morning of_register manual into_goods balance nails_under nails empty after_nails map_lines
 not_drawn = refl
 
 drawn_for_a_question : serial shop first_state
@@ -295,8 +309,8 @@ drawn_for_a_question : serial shop first_state
 unfolding numbers step serial effect_of change_effect plan_effect question_answer question_effect
     record_set
     record_sets plan_manual given_sets set_records space_of given_record record_in_register
-    question_balance sum_rows is_code parse_num digits_from decimals_from last_digits_from units_of
-    shop morning of_register manual into_goods balance nails empty after_nails map_lines
+    question_balance sum_rows is_code right_word parse_num digits_from decimals_from last_digits_from units_of
+    shop morning of_register manual into_goods balance nails_under nails empty after_nails map_lines
 drawn_for_a_question = refl
 
 -- it knows no limit: a number above the greatest one that a desk draws is taken
@@ -305,6 +319,64 @@ no_limit : numbers (serial shop first_state
 unfolding numbers step serial effect_of change_effect plan_effect question_answer question_effect
     record_set
     record_sets plan_manual given_sets set_records space_of given_record record_in_register
-    question_balance sum_rows is_code parse_num digits_from decimals_from last_digits_from units_of
-    shop morning of_register manual into_goods balance nails empty after_nails map_lines
+    question_balance sum_rows is_code right_word parse_num digits_from decimals_from last_digits_from units_of
+    shop morning of_register manual into_goods balance nails_under nails empty after_nails map_lines
 no_limit = refl
+
+-- ---- numbers
+
+-- without its right a clerk may not
+barred : Setting
+barred = record shop {
+  config = record shop.config {
+    clerks = record { name = codes "anna"; rights = ManualRight ∷ [] } ∷ [];
+  };
+}
+
+not_allowed : (step (first_desk barred) (balance (codes "anna") (BeforeDate morning))).reply
+    ≡ Refused (NotAllowed Read)
+unfolding step effect_of barred shop morning balance right_word
+not_allowed = refl
+
+-- what a number says where the clerk's last one was 2, of this text
+last_was_two : Last
+last_was_two = record {
+  clerk = codes "anna";
+  number = 2;
+  text = codes "two";
+  acknowledgement = DocumentStands true 7 Posted;
+}
+
+asked_with : ℕ → List ℕ → Result (Unit {0}) Stop
+asked_with nr text = number_test (last_was_two ∷ []) (codes "anna") (Some nr) text
+
+-- again: the kept reply; another text: the number is used again; below: stale; above: it goes on
+again : asked_with 2 (codes "two") ≡ Err (repeats (DocumentStands true 7 Posted))
+unfolding asked_with last_was_two
+again = refl
+
+another_text : asked_with 2 (codes "three") ≡ Err (refuses NumberReused)
+unfolding asked_with last_was_two
+another_text = refl
+
+below : asked_with 1 (codes "one") ≡ Err (refuses (Stale 2))
+unfolding asked_with last_was_two
+below = refl
+
+above : asked_with 3 (codes "two") ≡ Ok tt
+unfolding asked_with last_was_two
+above = refl
+
+-- another clerk's numbers are his own
+of_another : number_test (last_was_two ∷ []) (codes "boris") (Some 1) (codes "one") ≡ Ok tt
+unfolding last_was_two
+of_another = refl
+
+-- a request that was accepted is its clerk's last
+kept : map (λ l. l.number) (step after_nails (nails_under 4)).desk.serial.lasts ≡ 4 ∷ []
+unfolding step effect_of change_effect plan_effect question_answer question_effect record_set
+    record_sets
+    plan_manual given_sets set_records space_of given_record record_in_register question_balance
+    sum_rows is_code right_word parse_num digits_from decimals_from last_digits_from units_of shop
+    morning of_register manual into_goods balance nails_under nails empty after_nails map_lines
+kept = refl

@@ -12,7 +12,7 @@ use Rattle.desk_words.specs.declared.reply.Refusal.TheVariants.{BadLine, Unknown
 use Rattle.desk_words.specs.Reading.{request}
 use Rattle.desk_words.specs.ReplyTexts.{reply_text}
 use Rattle.desk_model.specs.State.{Desk}
-use Rattle.desk_model.specs.Serial.{is_batch}
+use Rattle.desk_model.specs.Clerks.{is_batch}
 use Rattle.desk_model.specs.Desk.{Event, meaning_at, step}
 
 -- whether a line has nothing but spaces and tabs

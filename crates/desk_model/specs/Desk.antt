@@ -5,13 +5,17 @@ use Rattle.reg_base.specs.Results.{unless}
 use Rattle.desk_words.specs.declared.request.Request.{Request}
 use Rattle.desk_words.specs.declared.reply.Reply.{Reply}
 use Rattle.desk_words.specs.declared.reply.Reply.TheVariants.{Done, Refused}
+use Rattle.desk_words.specs.declared.reply.Answer.TheVariants.{Acknowledged}
 use Rattle.desk_words.specs.declared.reply.Refusal.TheVariants.{Limit}
 use Rattle.desk_words.specs.declared.reply.Limit.TheVariants.{Numbers}
 use Rattle.desk_model.specs.State.{State, Desk, Command}
 use Rattle.desk_model.specs.Plans.{Deed, changes, asks_register, Meaning}
 use Rattle.desk_model.specs.Meanings.{meaning_of}
-use Rattle.desk_model.specs.Effects.{Effect, Stop, refuses, Tests}
-use Rattle.desk_model.specs.Serial.{effect_of}
+use Rattle.desk_words.specs.RequestTexts.{request_text}
+use Rattle.desk_model.specs.Effects.{Effect, Tests}
+use Rattle.desk_model.specs.LastRequests.{number_test}
+use Rattle.desk_model.specs.Stops.{Stop, refuses, repeats}
+use Rattle.desk_model.specs.Serial.{effect_of, state_kept}
 
 -- the greatest document number
 abbrev pub greatest_number : ℕ
@@ -26,9 +30,11 @@ number_is_left state false = true
 abbrev pub next_number : State → ℕ
 next_number state = if nat_lt state.top greatest_number then state.top + 1 else 0
 
--- what a desk asks besides the request itself: its limits, behind the plan
-abbrev pub tests_of : Desk → Meaning → Tests
-tests_of desk meaning = record {
+-- what a desk asks besides the request itself, whose canonical text this is: its number, and behind
+-- the plan its limits
+abbrev pub tests_of : Desk → Meaning → List ℕ → Tests
+tests_of desk meaning text = record {
+  number = number_test desk.serial.lasts meaning.clerk meaning.number text;
   plan = λ plan. unless (number_is_left desk.serial meaning.draws) (Limit Numbers greatest_number);
 }
 
@@ -45,8 +51,9 @@ command_at desk request = record {
 
 -- the effect of a request at a desk, or why it goes no further
 abbrev pub effect_at : Desk → Request → Result Effect Stop
-effect_at desk request = effect_of (tests_of desk (meaning_at desk request)) desk.setting
-    desk.serial (command_at desk request)
+effect_at desk request = effect_of
+    (tests_of desk (meaning_at desk request) (request_text request)) desk.setting desk.serial
+    (command_at desk request)
 
 -- what one request comes to: its reply, the desk after, and the commands that it commits
 pub record Event : Type 0 where
@@ -62,17 +69,19 @@ commits_of (asks_register question) command = []
 -- the reply where a request goes no further
 abbrev pub reply_at : Stop → Reply
 reply_at (refuses refusal) = Refused refusal
+reply_at (repeats acknowledgement) = Done (Acknowledged acknowledgement)
 
--- an accepted request leaves its effect, and any other one leaves the desk as it is
-abbrev pub event_of : Desk → Deed → Command → Result Effect Stop → Event
-event_of desk deed command (Ok effect) = record {
+-- an accepted request leaves its effect, and is its clerk's last where it has a number; any other
+-- one leaves the desk as it is
+abbrev pub event_of : Desk → Meaning → Command → Result Effect Stop → Event
+event_of desk meaning command (Ok effect) = record {
   reply = Done effect.answer;
   desk = record desk {
-    serial = effect.state;
+    serial = state_kept meaning (request_text command.request) effect;
   };
-  commits = commits_of deed command;
+  commits = commits_of meaning.deed command;
 }
-event_of desk deed command (Err stop) = record {
+event_of desk meaning command (Err stop) = record {
   reply = reply_at stop;
   desk = desk;
   commits = [];
@@ -80,5 +89,5 @@ event_of desk deed command (Err stop) = record {
 
 -- one request
 unfoldable pub step : Desk → Request → Event
-step desk request = event_of desk (meaning_at desk request).deed (command_at desk request)
+step desk request = event_of desk (meaning_at desk request) (command_at desk request)
     (effect_at desk request)

@@ -1,12 +1,15 @@
--- What an accepted request leaves, and why another goes no further.
-use Rattle.std.specs.Prelude.{ℕ, max, Option, Some, None, List, [], ◌∷◌, Result, Ok, Err}
+-- What an accepted request leaves, and what is asked before it does.
+use Rattle.std.specs.Prelude.{ℕ, max, Option, Some, None, List, [], ◌∷◌, Result, Ok}
 use Rattle.reg_base.specs.declared.records.Doc.{Doc}
 use Rattle.reg_base.specs.declared.records.Document.{Document}
 use Rattle.desk_words.specs.declared.reply.Answer.{Answer}
-use Rattle.desk_words.specs.declared.reply.Answer.TheVariants.{Document as DocumentAnswer}
+use Rattle.desk_words.specs.declared.reply.Answer.TheVariants.{Acknowledged}
+use Rattle.desk_words.specs.declared.reply.Acknowledgement.{Acknowledgement}
+use Rattle.desk_words.specs.declared.reply.Acknowledgement.TheVariants.{Document as DocumentStands}
 use Rattle.desk_words.specs.declared.reply.Refusal.{Refusal}
 use Rattle.desk_model.specs.State.{State}
-use Rattle.desk_model.specs.Documents.{with_document, without_document}
+use Rattle.desk_model.specs.Stops.{Stop}
+use Rattle.reg_base.specs.Documents.{with_document, without_document}
 use Rattle.desk_model.specs.declared.plan.Source.{Source}
 use Rattle.desk_model.specs.declared.plan.Source.TheVariants.{ByHand}
 use Rattle.desk_model.specs.declared.plan.Plan.{Plan}
@@ -22,25 +25,18 @@ pub record Effect : Type 0 where
   pub works : List Work
   pub answer : Answer
 
--- why a request goes no further
-pub data Stop : Type 0 where
-  refuses : Refusal → Stop
-
--- what a machine asks besides the request itself, and where: a plan that was made, before its
--- records are
+-- what a machine asks besides the request itself, and where: of the request's number, before what
+-- it does is looked at; of a plan that was made, before its records are
 pub record Tests : Type 0 where
+  pub number : Result (Unit {0}) Stop
   pub plan : Plan → Result (Unit {0}) Refusal
 
 -- no tests
 abbrev pub no_tests : Tests
 no_tests = record {
+  number = Ok tt;
   plan = λ plan. Ok tt;
 }
-
--- a part of a request's way, which stops where it is refused
-abbrev pub or_stop : {X : Type 0} → Result X Refusal → Result X Stop
-or_stop (Ok x) = Ok x
-or_stop (Err refusal) = Err (refuses refusal)
 
 -- ---- effects of changes
 
@@ -57,14 +53,14 @@ state_with state number work = record state {
   top = max state.top number;
 }
 
--- how a changed document stands, as its change answers
-abbrev pub answer_of : Doc → Source → Answer
-answer_of doc (ByHand given) = DocumentAnswer doc.active doc.number doc.state
+-- how a changed document stands, as its change is acknowledged
+abbrev pub acknowledgement_of : Doc → Source → Acknowledgement
+acknowledgement_of doc (ByHand given) = DocumentStands doc.active doc.number doc.state
 
 -- what a change leaves: the state with its work, and how its document stands
 abbrev pub effect_with : State → ℕ → Plan → Work → Effect
 effect_with state number plan work = record {
   state = state_with state number work;
   works = work ∷ [];
-  answer = answer_of plan.doc plan.source;
+  answer = Acknowledged (acknowledgement_of plan.doc plan.source);
 }

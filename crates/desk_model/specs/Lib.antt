@@ -1,7 +1,8 @@
 pub mod Answers
+pub mod Clerks
 pub mod Desk
-pub mod Documents
 pub mod Effects
+pub mod LastRequests
 pub mod Laws
 pub mod Manuals
 pub mod Meanings
@@ -10,3 +11,4 @@ pub mod Questions
 pub mod RecordSets
 pub mod Serial
 pub mod State
+pub mod Stops

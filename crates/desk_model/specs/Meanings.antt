@@ -1,7 +1,7 @@
 -- What each request means under a configuration.
 use Rattle.std.specs.Prelude.{false, Some, None, is_none}
 use Rattle.cfg_model.specs.declared.config.Config.{Config}
-use Rattle.cfg_model.specs.declared.clerk.Right.TheVariants.{Manual as ManualRight, Read}
+use Rattle.reg_base.specs.declared.right.Right.TheVariants.{Manual as ManualRight, Read}
 use Rattle.desk_words.specs.declared.request.Request.{Request}
 use Rattle.desk_words.specs.declared.request.Request.TheVariants.{Manual, Balance}
 use Rattle.desk_model.specs.Plans.{Meaning, changes, asks_register}

@@ -3,7 +3,7 @@ use Rattle.std.specs.Prelude.{ℕ, Bool, Option, List, Result}
 use Rattle.reg_base.specs.declared.records.Document.{Document}
 use Rattle.reg_base.specs.declared.records.Filter.{Filter}
 use Rattle.reg_base.specs.Records.{Booked}
-use Rattle.cfg_model.specs.declared.clerk.Right.{Right}
+use Rattle.reg_base.specs.declared.right.Right.{Right}
 use Rattle.desk_words.specs.declared.reply.Answer.{Answer}
 use Rattle.desk_words.specs.declared.reply.Refusal.{Refusal}
 use Rattle.desk_model.specs.declared.plan.Plan.{Plan}

@@ -1,37 +1,27 @@
 -- What a command does to the serial state, and the serial machine.
-use Rattle.std.specs.Prelude.{ℕ, ◌==◌, Bool, true, false, ◌||◌, ◌&&◌, codes, nat_lt, Option}
-use Rattle.std.specs.Prelude.{Some, is_some, is_none, option_and_then, List, [], Result}
-use Rattle.std.specs.Prelude.{Ok, Err}
-use Rattle.std.specs.Str.{bytes_eq}
+use Rattle.std.specs.Prelude.{ℕ, ◌==◌, Bool, true, false, ◌&&◌, nat_lt, Option, Some, is_none}
+use Rattle.std.specs.Prelude.{option_and_then, List, [], Result, Ok, Err}
 use Rattle.reg_base.specs.declared.records.Doc.{Doc}
 use Rattle.reg_base.specs.declared.records.Document.{Document}
 use Rattle.reg_base.specs.Results.{◌>>=◌, unless}
 use Rattle.reg_base.specs.Records.{records_of, chosen_records}
-use Rattle.cfg_model.specs.declared.config.Config.{Config}
-use Rattle.cfg_model.specs.Places.{clerk_place}
 use Rattle.desk_words.specs.declared.reply.Answer.{Answer}
 use Rattle.desk_words.specs.declared.reply.Refusal.{Refusal}
-use Rattle.desk_words.specs.declared.reply.Refusal.TheVariants.{UnknownClerk}
+use Rattle.desk_words.specs.declared.reply.Refusal.TheVariants.{UnknownClerk, NotAllowed}
 use Rattle.desk_model.specs.State.{Setting, State, Command}
-use Rattle.desk_model.specs.Documents.{document_at}
-use Rattle.desk_model.specs.Effects.{Effect, Stop, refuses, Tests, no_tests, or_stop}
+use Rattle.reg_base.specs.Documents.{document_at}
+use Rattle.desk_model.specs.Effects.{Effect, Tests, no_tests}
+use Rattle.desk_model.specs.Stops.{Stop, refuses, or_stop}
 use Rattle.desk_model.specs.Effects.{effect_with}
 use Rattle.desk_model.specs.declared.plan.Source.{Source}
 use Rattle.desk_model.specs.declared.plan.Source.TheVariants.{ByHand}
 use Rattle.desk_model.specs.declared.plan.Plan.{Plan}
 use Rattle.desk_model.specs.Plans.{Sight, Change, Question, Deed, changes, asks_register}
+use Rattle.desk_model.specs.Plans.{Meaning}
+use Rattle.desk_model.specs.Clerks.{is_clerk, is_allowed}
+use Rattle.desk_model.specs.LastRequests.{lasts_with}
 use Rattle.desk_model.specs.RecordSets.{record_sets}
 use Rattle.desk_model.specs.Meanings.{meaning_of}
-
--- ---- clerks
-
--- whether a name is that of the clerk that is built in
-abbrev pub is_batch : List ℕ → Bool
-is_batch name = bytes_eq name (codes "batch")
-
--- whether there is such a clerk: the configuration has it, or it is built in
-abbrev pub is_clerk : Config → List ℕ → Bool
-is_clerk config name = is_batch name || is_some (clerk_place name config.clerks)
 
 -- ---- changes of documents
 
@@ -92,12 +82,22 @@ deed_effect tests setting state number (changes change) =
     change_effect tests setting state number change
 deed_effect tests setting state number (asks_register question) = question_effect state question
 
--- the effect of a command, or why it goes no further: there is such a clerk, and then its deed
+-- the effect of a command, or why it goes no further: there is such a clerk, who may do this, and
+-- his number is asked; and then its deed
 unfoldable pub effect_of : Tests → Setting → State → Command → Result Effect Stop
 effect_of tests setting state command = do
   let meaning = meaning_of setting.config command.request
   _ ← unless (is_clerk setting.config meaning.clerk) (refuses UnknownClerk)
+  _ ← unless (is_allowed setting.config meaning.clerk meaning.right)
+      (refuses (NotAllowed meaning.right))
+  _ ← tests.number
   or_stop (deed_effect tests setting state command.number meaning.deed)
+
+-- the state that a command leaves: one with a number is its clerk's last
+abbrev pub state_kept : Meaning → List ℕ → Effect → State
+state_kept meaning text effect = record effect.state {
+  lasts = lasts_with meaning.clerk meaning.number text effect.answer effect.state.lasts;
+}
 
 -- why the serial machine takes no command: it stops, or its number is none that can be drawn
 pub data SerialFault : Type 0 where

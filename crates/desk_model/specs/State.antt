@@ -3,16 +3,18 @@ use Rattle.std.specs.Prelude.{ℕ, List, []}
 use Rattle.reg_base.specs.declared.records.Document.{Document}
 use Rattle.cfg_model.specs.declared.config.Config.{Config}
 use Rattle.desk_words.specs.declared.request.Request.{Request}
+use Rattle.desk_model.specs.declared.last.Last.{Last}
 
 -- what a desk is set up with
 pub record Setting : Type 0 where
   pub config : Config
 
--- the serial state: the documents in order of number, and the greatest number that was ever
--- committed
+-- the serial state: the documents in order of number, the greatest number that was ever committed,
+-- and the last request of each clerk
 pub record State : Type 0 where
   pub documents : List Document
   pub top : ℕ
+  pub lasts : List Last
 
 -- a desk: its setting, and the serial state that is committed
 pub record Desk : Type 0 where
@@ -24,11 +26,12 @@ pub record Command : Type 0 where
   pub number : ℕ
   pub request : Request
 
--- no document was made yet
+-- nothing was committed yet
 abbrev pub first_state : State
 first_state = record {
   documents = [];
   top = 0;
+  lasts = [];
 }
 
 -- a desk as it is opened

@@ -5,12 +5,21 @@ ghost use Rattle.desk_words.specs.declared.request.Request.{Request};
 ghost use Rattle.desk_words.specs.ReplyTexts.{HasScales};
 ghost use Rattle.desk_model.specs.State.{Desk};
 ghost use Rattle.desk_model.specs.Desk.{step};
-ghost use Rattle.desk_model.specs.Laws.{BalancesHold, IsRefusal, RefusalKeeps, Replays};
+ghost use Rattle.desk_model.specs.Laws.{BalancesHold, NumbersRise, RepeatsChangeNothing};
+ghost use Rattle.desk_model.specs.Laws.{RepeatsAreAnswered, IsRefusal, RefusalKeeps, Replays};
 
 /// Every accepted balance is the sum over the records active at its point, whatever lines came
 /// before it.
 pub fn balances_are_sums()
     ensures { (desk : Desk) (lines : List Line) → BalancesHold desk lines }
+{}
+
+/// The numbers of each clerk rise over the lines that are answered; a request that is repeated
+/// changes nothing, and is given the same reply while it is its clerk's last.
+pub fn requests_act_once()
+    ensures order { (desk : Desk) (lines : List Line) → NumbersRise desk lines }
+    ensures once { (desk : Desk) (lines : List Line) → RepeatsChangeNothing desk lines }
+    ensures repeats { (desk : Desk) (lines : List Line) → RepeatsAreAnswered desk lines }
 {}
 
 /// A request that is refused leaves the desk as it was, and so does a line.

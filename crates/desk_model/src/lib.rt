@@ -12,10 +12,13 @@
 //! Leaves open: how a desk keeps its documents; there is no other code here than plain types.
 #![tactic(auto)]
 
+mod last;
 mod laws;
 mod plan;
 
+pub use last::Last;
 pub use laws::{
     accepted_requests_replay, balances_are_sums, refusals_change_nothing, replies_have_scales,
+    requests_act_once,
 };
 pub use plan::{Given, Plan, Source};

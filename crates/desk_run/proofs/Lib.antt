@@ -3,5 +3,5 @@ pub mod RunLemmas
 pub mod RunEnds
 pub mod CallEnds
 pub mod Completeness
-pub mod AnsweredBalances
+pub mod AnsweredLaws
 pub mod WorkedRows

@@ -14,7 +14,7 @@ use Rattle.reg_io.specs.declared.line.LineFault.TheVariants.{Read as ReadFault}
 use Rattle.reg_io.specs.declared.line.LineFault.TheVariants.{InputTooLong as InputFault}
 use Rattle.reg_io.specs.declared.line.LineFault.TheVariants.{Memory as MemoryFault}
 use Rattle.desk_model.specs.State.{Desk}
-use Rattle.desk_model.proofs.ForAbove.{BalancesHold-always}
+use Rattle.desk_model.proofs.ForAbove.{LawsHold-always}
 use Rattle.desk_model.specs.Answers.{line_answer, desk_after, line_desk}
 use Rattle.desk_run.specs.declared.run.RunEnd.{RunEnd}
 use Rattle.desk_run.specs.declared.run.RunEnd.TheVariants.{Memory, Read, Write, InputTooLong}
@@ -114,7 +114,7 @@ Runs-none desk left left_now taken reads reads_now writes writes_now = record {
   answered = record {
     first = first_none left;
     out = Appends-nil taken;
-    balances = BalancesHold-always desk [];
+    laws = LawsHold-always desk [];
     desk_is = refl;
   };
 }
@@ -177,7 +177,7 @@ answered_lines desk now first ahead_now left_now room ended out_first out_now re
     writes writes_now running = record {
       first = given_first first ahead_now room ended running.lines running.given;
       out = running.out;
-      balances = BalancesHold-always desk running.lines;
+      laws = LawsHold-always desk running.lines;
       desk_is = running.desk_is;
     }
 
@@ -248,7 +248,7 @@ Runs-answer desk now next first ahead_now ahead_next left_now room_now room_next
       answered = record {
         first = given_first first ahead_now room_now ended_now running.lines running.given;
         out = rw answered.0 running.out;
-        balances = BalancesHold-always desk running.lines;
+        laws = LawsHold-always desk running.lines;
         desk_is = answered.1 ∙ running.desk_is;
       };
     }
@@ -267,7 +267,7 @@ Runs-answer desk now next first ahead_now ahead_next left_now room_now room_next
       count = front.0;
       part = front.1;
       out = Appends-trans out_first out_now out_next _ _ running.out front.2;
-      balances = BalancesHold-always desk (running.lines ++ line ∷ []);
+      laws = LawsHold-always desk (running.lines ++ line ∷ []);
       desk_is = desk_is-more desk now next running.lines line running.desk_is answered.1;
       cause = Rose-later writes writes_now writes_next later answered.2;
     }

@@ -9,7 +9,7 @@ use Rattle.cfg_model.specs.Reading.{read_config}
 use Rattle.reg_base.specs.declared.line.Line.{Line}
 use Rattle.desk_model.specs.State.{Desk}
 use Rattle.desk_model.specs.Answers.{answers_to}
-use Rattle.desk_model.specs.Laws.{BalancesHold}
+use Rattle.desk_model.specs.Laws.{LawsHold}
 use Rattle.desk_run.specs.Inputs.{desk_under, answers}
 use Rattle.desk_run.specs.declared.run.RunEnd.{RunEnd}
 use Rattle.desk_run.specs.declared.run.RunEnd.TheVariants.{Memory as RunMemory, Read as RunRead}
@@ -98,14 +98,14 @@ pub record HoldsConfig (words : List (List ℕ)) (shelf : ShelfState) (config : 
   pub read : file_read (file_named name all) most_config_bytes ≡ Ok bytes
   pub accepted : IsAccepted bytes config
 
--- first lines of the input were answered, the last of them perhaps in part, and each accepted
--- balance among them is the sum at its place
-pub record AnswersBalances (desk : Desk) (before now : Streams) : Type 0 where
+-- first lines of the input were answered, the last of them perhaps in part, and the laws hold among
+-- them
+pub record KeepsLaws (desk : Desk) (before now : Streams) : Type 0 where
   pub lines : List Line
   pub first : AreFirstLines lines before.left
   pub count : ℕ
   pub out : Appends before.taken now.taken (take count (answers_to desk lines))
-  pub balances : BalancesHold desk lines
+  pub laws : LawsHold desk lines
 
 -- nothing stands in the way of a run of this input: the words, the file and the input are as they
 -- should be, and no count rose

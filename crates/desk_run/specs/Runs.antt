@@ -7,7 +7,7 @@ use Rattle.reg_io.specs.Lines.{lines_of, whole_lines_of}
 use Rattle.reg_base.specs.declared.line.Line.{Line}
 use Rattle.desk_model.specs.State.{Desk}
 use Rattle.desk_model.specs.Answers.{line_answer, answers_to, desk_after}
-use Rattle.desk_model.specs.Laws.{BalancesHold}
+use Rattle.desk_model.specs.Laws.{LawsHold}
 use Rattle.desk_run.specs.declared.run.RunEnd.{RunEnd}
 use Rattle.desk_run.specs.declared.run.RunEnd.TheVariants.{Memory, Read, Write, InputTooLong}
 
@@ -46,13 +46,13 @@ abbrev pub AreFirstLines : List Line → Option (List ℕ) → Type 0
 AreFirstLines lines input = IfSome input (λ bytes. (rest : List Line) ×
     (answerable_lines bytes ≡ lines ++ rest))
 
--- these first lines were answered whole: the output grew by exactly their answers, among which
--- each accepted balance is the sum at its place, and the desk is the one after them
+-- these first lines were answered whole: the output grew by exactly their answers, among which the
+-- laws hold, and the desk is the one after them
 pub record AnswersLines (desk after : Desk) (lines : List Line)
     (before now : Streams) : Type 0 where
   pub first : AreFirstLines lines before.left
   pub out : Appends before.taken now.taken (answers_to desk lines)
-  pub balances : BalancesHold desk lines
+  pub laws : LawsHold desk lines
   pub desk_is : after ≡ desk_after desk lines
 
 -- the input was read to its end and lies within its limit, and all of its lines were answered
@@ -83,7 +83,7 @@ pub record StopsAtWrite (desk after : Desk) (before now : Streams) : Type 0 wher
   pub part : count < length (line_answer (desk_after desk lines) line)
   pub out : Appends before.taken now.taken (answers_to desk lines
       ++ take count (line_answer (desk_after desk lines) line))
-  pub balances : BalancesHold desk (lines ++ line ∷ [])
+  pub laws : LawsHold desk (lines ++ line ∷ [])
   pub desk_is : after ≡ desk_after desk (lines ++ line ∷ [])
   pub cause : Rose before.write_faults now.write_faults
 

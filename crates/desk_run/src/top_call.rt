@@ -2,7 +2,7 @@
 ghost use Rattle.std.specs.Prelude.{◌≡◌, ◌↔◌, map, string_bytes};
 ghost use Rattle.cfg_model.specs.declared.config.Config.{Config};
 ghost use Rattle.desk_run.specs.Inputs.{desk_under};
-ghost use Rattle.desk_run.specs.Ends.{AnswersBalances, AskNothing, Ends, Finishes, HoldsConfig};
+ghost use Rattle.desk_run.specs.Ends.{KeepsLaws, AskNothing, Ends, Finishes, HoldsConfig};
 ghost use Rattle.desk_run.specs.ConfigFiles.{ReadsConfig, shelf_of};
 ghost use Rattle.desk_run.specs.Ends.{RunsFile, RunsWith};
 ghost use Rattle.desk_run.specs.Runs.{streams_of};
@@ -52,12 +52,13 @@ pub fn desk_main<R: Threads + Sync, F: Shelf, D: Disk + Send, S: Source, O: Sink
     ensures words { (result.status ≡ 2) ↔ AskNothing (map (λ w. string_bytes w) words.now) }
     ensures disk { result.disk ≡ disk }
 
-    // Each accepted balance that was answered under the file's configuration is the sum over the
-    // records at its place.
-    ensures balances { (config : Config)
+    // Of the lines that were answered under the file's configuration: each accepted balance is the
+    // sum over the records at its place; the numbers of each clerk's requests rise; a repeated
+    // request changes nothing, and is given the same reply while it is its clerk's last.
+    ensures laws { (config : Config)
         → HoldsConfig (map (λ w. string_bytes w) words.now)
         (shelf_of F.files F.faults shelf.old) config
-        → AnswersBalances (desk_under config)
+        → KeepsLaws (desk_under config)
         (streams_of S.left S.read_faults O.taken O.write_faults input.old out.old)
         (streams_of S.left S.read_faults O.taken O.write_faults input.new out.new) }
 {

@@ -12,14 +12,7 @@ const NO_OBJECT: &str = "{\"refused\":{\"code\":1,\"kind\":3,\"name\":\"BadLine\
 const PIECES: [usize; 6] = [1, 2, 3, 5, 7, RECEIPT.len() + 1];
 
 // The replies to the lines of the input, in order.
-const REPLIES: [&str; 6] = [
-    POSTED,
-    NO_OBJECT,
-    "",
-    "",
-    NAILS,
-    "{\"ok\":{\"active\":true,\"doc\":2,\"state\":\"posted\"}}\n",
-];
+const REPLIES: [&str; 6] = [POSTED, NO_OBJECT, "", "", NAILS, POSTED];
 
 // The input, and the replies to it one after another.
 #[derive(Drop)]
@@ -28,7 +21,8 @@ struct Texts {
     replies: String,
 }
 
-// An input of four lines that are answered and two that are not, with each end of a line.
+// An input of four lines that are answered and two that are not, with each end of a line; the last
+// one is the first again, and has its reply again.
 fn input(alloc: Global) -> Result<String, AllocError> {
     format!(in alloc; "{RECEIPT}\n[]\r\n \t\r\n\n{BALANCE}\r\n{RECEIPT}")
 }

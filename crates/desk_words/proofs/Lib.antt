@@ -8,3 +8,4 @@ mod PlainLemmas
 pub mod ReadBackLemmas
 pub mod WellFormedLemmas
 mod WorkedRows
+mod WorkedReplies

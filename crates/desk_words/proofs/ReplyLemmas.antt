@@ -1,6 +1,7 @@
 -- Sums have their texts, and a reply has no float, so that its text is known.
-use Rattle.std.proofs.Common.{◌≡◌, ℕ, Option, ℤ, false, List, [], ◌∷◌, ◌++◌, map, ◌⊎◌, ⊎_elim, refl}
-use Rattle.std.proofs.Common.{sym, ap, ◌∙◌, append-nil}
+use Rattle.std.proofs.Common.{◌≡◌, ℕ, Option, None, Some, ℤ, false, List, [], ◌∷◌, ◌++◌, map}
+use Rattle.std.proofs.Common.{◌⊎◌, ⊎_elim, refl, sym, ap, ◌∙◌, append-nil}
+use Rattle.std.proofs.lemmas.Bool.{or_parts}
 use Rattle.serde_json.specs.Data.{Data, string}
 use Rattle.serde_json.specs.View.{items_of}
 use Rattle.serde_json.specs.Written.{has_float, items_have_float}
@@ -9,20 +10,33 @@ use Rattle.desk_words.specs.declared.fault.WordFault.{WordFault}
 use Rattle.desk_words.specs.declared.fault.WordFault.TheVariants.{TooLong, NotJson, NotObject}
 use Rattle.desk_words.specs.declared.fault.WordFault.TheVariants.{UnknownOp, Missing, UnknownMember}
 use Rattle.desk_words.specs.declared.fault.WordFault.TheVariants.{BadMember, Memory}
+use Rattle.desk_words.specs.declared.request.Request.TheVariants.{Manual}
+use Rattle.desk_words.specs.declared.request.SetText.{SetText}
 use Rattle.desk_words.specs.declared.reply.Reply.{Reply}
 use Rattle.desk_words.specs.declared.reply.Reply.TheVariants.{Done, Refused}
 use Rattle.desk_words.specs.declared.reply.Answer.{Answer}
-use Rattle.desk_words.specs.declared.reply.Answer.TheVariants.{Document, Balance}
+use Rattle.desk_words.specs.declared.reply.Answer.TheVariants.{Acknowledged, Balance, Shown}
+use Rattle.desk_words.specs.declared.reply.Acknowledgement.{Acknowledgement}
+use Rattle.desk_words.specs.declared.reply.Acknowledgement.TheVariants.{Document, Swept}
+use Rattle.desk_words.specs.declared.reply.Acknowledgement.TheVariants.{Closed as ClosedBooks}
+use Rattle.desk_words.specs.declared.reply.ShownDocument.{ShownDocument}
 use Rattle.desk_words.specs.declared.reply.Refusal.{Refusal}
-use Rattle.desk_words.specs.declared.reply.Refusal.TheVariants.{BadLine, UnknownClerk, BadField}
-use Rattle.desk_words.specs.declared.reply.Refusal.TheVariants.{Limit, Rule}
+use Rattle.desk_words.specs.declared.reply.Refusal.TheVariants.{BadLine, UnknownClerk, NotAllowed}
+use Rattle.desk_words.specs.declared.reply.Refusal.TheVariants.{Stale, NumberReused, UnknownDoc}
+use Rattle.desk_words.specs.declared.reply.Refusal.TheVariants.{WrongState, BadField, KeyTaken}
+use Rattle.desk_words.specs.declared.reply.Refusal.TheVariants.{Closed, Limit, Rule}
 use Rattle.reg_base.specs.declared.fault.PostFault.{PostFault}
 use Rattle.reg_base.specs.declared.fault.PostFault.TheVariants.{Broken, Shortage, Overflow, Entry}
 use Rattle.reg_base.specs.declared.fault.PostFault.TheVariants.{TooManyRecords, Negative}
-use Rattle.desk_words.proofs.JsonLemmas.{has_float-texts_data}
-use Rattle.desk_words.specs.ReplyTexts.{sum_texts, row_data, rows_data, document_data, answer_data}
-use Rattle.desk_words.specs.ReplyTexts.{word_fault_members, post_fault_members}
-use Rattle.desk_words.specs.ReplyTexts.{refusal_detail, refusal_data, reply_data}
+use Rattle.desk_words.proofs.JsonLemmas.{has_float-texts_data, has_float-fields_data}
+use Rattle.desk_words.proofs.JsonLemmas.{has_float-lines_data}
+use Rattle.desk_words.proofs.RequestLemmas.{has_float-request_data}
+use Rattle.desk_words.specs.RequestTexts.{sets_data, manual_frame, manual_members, request_data}
+use Rattle.desk_words.specs.ReplyTexts.{sum_texts, row_data, rows_data, document_data}
+use Rattle.desk_words.specs.ReplyTexts.{acknowledgement_data, key_data, shown_data, answer_data}
+use Rattle.desk_words.specs.ReplyTexts.{reply_data}
+use Rattle.desk_words.specs.RefusalTexts.{word_fault_members, post_fault_members}
+use Rattle.desk_words.specs.RefusalTexts.{refusal_detail, refusal_data}
 
 -- without sums there are no texts
 sum_texts-nil : (scales : List ℕ) → sum_texts scales [] ≡ []
@@ -51,11 +65,52 @@ items_have_float-rows scales [] = refl
 items_have_float-rows scales (row ∷ rows) =
     rw (has_float-row_data scales row) (items_have_float-rows scales rows)
 
+-- an acknowledgement has none
+has_float-acknowledgement_data : (acknowledgement : Acknowledgement) →
+    has_float (acknowledgement_data acknowledgement) ≡ false
+unfolding document_data
+has_float-acknowledgement_data (Document active doc state) = refl
+has_float-acknowledgement_data (ClosedBooks date) = refl
+has_float-acknowledgement_data (Swept doc) = refl
+
+has_float-key_data : (key : Option (List ℕ)) → has_float (key_data key) ≡ false
+has_float-key_data None = refl
+has_float-key_data (Some key) = refl
+
+-- sets have none: they are as in a request
+has_float-sets : (sets : List SetText) → has_float (sets_data sets) ≡ false
+unfolding request_data manual_members manual_frame
+has_float-sets sets =
+    (or_parts (has_float (sets_data sets)) false
+    (has_float-request_data (Manual (record {
+      clerk = [];
+      no = 0;
+      doc = None;
+      key = None;
+      date = 0;
+      sets = sets;
+      comment = None;
+      tx = None;
+    })))).0
+
+-- a document that is shown has none
+has_float-shown_data : (shown : ShownDocument) → has_float (shown_data shown) ≡ false
+unfolding shown_data
+has_float-shown_data shown =
+    rw (
+      has_float-fields_data shown.head,
+      has_float-key_data shown.key,
+      has_float-lines_data shown.lines,
+      has_float-sets shown.sets,
+    )
+
 -- an answer has none
 has_float-answer_data : (answer : Answer) → has_float (answer_data answer) ≡ false
-unfolding answer_data document_data rows_data
-has_float-answer_data (Document active doc state) = refl
+unfolding answer_data rows_data
+has_float-answer_data (Acknowledged acknowledgement) =
+    has_float-acknowledgement_data acknowledgement
 has_float-answer_data (Balance rows scales) = rw (items_have_float-rows scales rows)
+has_float-answer_data (Shown shown) = has_float-shown_data shown
 
 -- the fault of a line has none
 has_float-bad_line : (fault : WordFault) → has_float (refusal_data (BadLine fault)) ≡ false
@@ -85,7 +140,14 @@ has_float-refusal_data : (refusal : Refusal) → has_float (refusal_data refusal
 unfolding refusal_data refusal_detail
 has_float-refusal_data (BadLine fault) = has_float-bad_line fault
 has_float-refusal_data UnknownClerk = refl
+has_float-refusal_data (NotAllowed right) = refl
+has_float-refusal_data (Stale last) = refl
+has_float-refusal_data NumberReused = refl
+has_float-refusal_data UnknownDoc = refl
+has_float-refusal_data (WrongState state) = refl
 has_float-refusal_data (BadField field) = refl
+has_float-refusal_data (KeyTaken doc) = refl
+has_float-refusal_data (Closed date) = refl
 has_float-refusal_data (Limit which limit) = refl
 has_float-refusal_data (Rule fault scale) = has_float-rule scale fault
 

@@ -20,7 +20,8 @@ use Rattle.desk_words.specs.declared.fault.WordFault.TheVariants.{BadMember}
 use Rattle.desk_words.specs.declared.request.Request.TheVariants.{Manual, Balance}
 use Rattle.desk_words.specs.declared.request.RecordText.TheVariants.{Register, Ledger}
 use Rattle.desk_words.specs.declared.reply.Reply.TheVariants.{Done}
-use Rattle.desk_words.specs.declared.reply.Answer.TheVariants.{Document, Balance as Rows}
+use Rattle.desk_words.specs.declared.reply.Answer.TheVariants.{Acknowledged, Balance as Rows}
+use Rattle.desk_words.specs.declared.reply.Acknowledgement.TheVariants.{Document}
 use Rattle.desk_words.specs.declared.reply.Refusal.TheVariants.{BadLine, Limit as LimitPassed, Rule}
 use Rattle.desk_words.specs.declared.reply.Limit.TheVariants.{Numbers}
 use Rattle.reg_base.specs.declared.fault.PostFault.TheVariants.{Broken, Shortage, Overflow, Entry}
@@ -37,8 +38,9 @@ use Rattle.desk_words.specs.RequestTexts.{manual_frame, manual_members, balance_
 use Rattle.desk_words.specs.RequestTexts.{balance_members, request_data, request_text}
 use Rattle.desk_words.specs.JsonValues.{texts_data}
 use Rattle.desk_words.specs.ReplyTexts.{row_data, rows_data, document_data, answer_data}
-use Rattle.desk_words.specs.ReplyTexts.{word_fault_members, post_fault_members, refusal_detail}
-use Rattle.desk_words.specs.ReplyTexts.{refusal_data, reply_data, reply_text}
+use Rattle.desk_words.specs.ReplyTexts.{reply_data, reply_text}
+use Rattle.desk_words.specs.RefusalTexts.{word_fault_members, post_fault_members, refusal_detail}
+use Rattle.desk_words.specs.RefusalTexts.{refusal_data}
 
 abbrev receipt_of_nails : Data
 receipt_of_nails =
@@ -168,7 +170,7 @@ unfolding reply_text reply_data answer_data rows_data row_data texts_data sum_te
 rows_of_nails = refl
 
 a_posted_document :
-    reply_data (Done (Document true 1 Posted))
+    reply_data (Done (Acknowledged (Document true 1 Posted)))
     ≡ object (member (codes "ok") (object (member (codes "active") (boolean true)
     (member (codes "doc") (number (unsigned 1))
     (member (codes "state") (string (codes "posted")) no_members)))) no_members)

@@ -3,7 +3,9 @@ pub mod Shapes
 pub mod Sets
 pub mod Reading
 pub mod JsonValues
+pub mod FieldTexts
 pub mod ReplyWords
-pub mod ReplyTexts
+pub mod RefusalTexts
 pub mod RequestTexts
+pub mod ReplyTexts
 pub mod WellFormed

@@ -7,12 +7,15 @@ use Rattle.desk_words.specs.declared.fault.WordFault.TheVariants.{TooLong, NotJs
 use Rattle.desk_words.specs.declared.fault.WordFault.TheVariants.{UnknownOp, Missing, UnknownMember}
 use Rattle.desk_words.specs.declared.fault.WordFault.TheVariants.{BadMember, Memory}
 use Rattle.desk_words.specs.declared.reply.Refusal.{Refusal}
-use Rattle.desk_words.specs.declared.reply.Refusal.TheVariants.{BadLine, UnknownClerk, BadField}
-use Rattle.desk_words.specs.declared.reply.Refusal.TheVariants.{Limit as LimitPassed, Rule}
+use Rattle.desk_words.specs.declared.reply.Refusal.TheVariants.{BadLine, UnknownClerk, NotAllowed}
+use Rattle.desk_words.specs.declared.reply.Refusal.TheVariants.{Stale, NumberReused, UnknownDoc}
+use Rattle.desk_words.specs.declared.reply.Refusal.TheVariants.{WrongState, BadField, KeyTaken}
+use Rattle.desk_words.specs.declared.reply.Refusal.TheVariants.{Closed, Limit as LimitPassed, Rule}
 use Rattle.desk_words.specs.declared.reply.Field.{Field}
-use Rattle.desk_words.specs.declared.reply.Field.TheVariants.{Space, Register, Values, Sums, Kind}
+use Rattle.desk_words.specs.declared.reply.Field.TheVariants.{Space, Register, Ledger, Values, Sums}
+use Rattle.desk_words.specs.declared.reply.Field.TheVariants.{Kind, Amount, Named}
 use Rattle.desk_words.specs.declared.reply.Limit.{Limit}
-use Rattle.desk_words.specs.declared.reply.Limit.TheVariants.{Numbers}
+use Rattle.desk_words.specs.declared.reply.Limit.TheVariants.{Documents, Numbers, Records, Lines}
 use Rattle.reg_base.specs.declared.fault.PostFault.{PostFault}
 use Rattle.reg_base.specs.declared.fault.PostFault.TheVariants.{Broken, Shortage, Overflow, Entry}
 use Rattle.reg_base.specs.declared.fault.PostFault.TheVariants.{TooManyRecords, Negative}
@@ -26,17 +29,23 @@ state_name Written = codes "written"
 state_name Posted = codes "posted"
 state_name Marked = codes "marked"
 
--- the word of a field
+-- the word of a field; one of a document's type has its own name
 abbrev pub field_name : Field → List ℕ
 field_name Space = codes "space"
 field_name Register = codes "register"
+field_name Ledger = codes "ledger"
 field_name Values = codes "values"
 field_name Sums = codes "sums"
 field_name Kind = codes "kind"
+field_name Amount = codes "amount"
+field_name (Named name) = name
 
 -- the word of what is limited
 abbrev pub limit_name : Limit → List ℕ
+limit_name Documents = codes "documents"
 limit_name Numbers = codes "numbers"
+limit_name Records = codes "records"
+limit_name Lines = codes "lines"
 
 -- the number of a fault of a line; want of memory is none and is never told
 abbrev pub word_fault_number : WordFault → ℕ
@@ -69,7 +78,14 @@ entry_fault_number Sides = 4
 abbrev pub refusal_number : Refusal → ℕ
 refusal_number (BadLine fault) = 1
 refusal_number UnknownClerk = 2
+refusal_number (NotAllowed right) = 3
+refusal_number (Stale last) = 4
+refusal_number NumberReused = 5
+refusal_number UnknownDoc = 9
+refusal_number (WrongState state) = 10
 refusal_number (BadField field) = 11
+refusal_number (KeyTaken doc) = 12
+refusal_number (Closed date) = 13
 refusal_number (LimitPassed which limit) = 14
 refusal_number (Rule fault scale) = 15
 
@@ -77,6 +93,13 @@ refusal_number (Rule fault scale) = 15
 abbrev pub refusal_name : Refusal → List ℕ
 refusal_name (BadLine fault) = codes "BadLine"
 refusal_name UnknownClerk = codes "UnknownClerk"
+refusal_name (NotAllowed right) = codes "NotAllowed"
+refusal_name (Stale last) = codes "Stale"
+refusal_name NumberReused = codes "NumberReused"
+refusal_name UnknownDoc = codes "UnknownDoc"
+refusal_name (WrongState state) = codes "WrongState"
 refusal_name (BadField field) = codes "BadField"
+refusal_name (KeyTaken doc) = codes "KeyTaken"
+refusal_name (Closed date) = codes "Closed"
 refusal_name (LimitPassed which limit) = codes "Limit"
 refusal_name (Rule fault scale) = codes "Rule"

@@ -13,12 +13,14 @@
 #![tactic(auto)]
 
 mod fault;
+mod field_values;
 mod json_values;
 mod laws;
 mod members;
 mod parsed;
 mod print;
 mod read;
+mod refusal_values;
 mod reply;
 mod reply_values;
 mod request;
@@ -28,7 +30,7 @@ mod shapes;
 
 pub use fault::{Member, WordFault};
 pub use laws::{members_ascend, requests_read_back};
-pub use reply::{Answer, Field, Limit, Refusal, Reply};
+pub use reply::{Acknowledgement, Answer, Field, Limit, Refusal, Reply, ShownDocument};
 pub use request::{
-    Balance, FilterText, LedgerText, Manual, RecordText, RegisterText, Request, SetText,
+    Balance, FieldText, FilterText, LedgerText, Manual, RecordText, RegisterText, Request, SetText,
 };

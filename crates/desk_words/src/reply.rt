@@ -1,13 +1,17 @@
 //! What the desk answers to a request.
 ghost use Rattle.std.specs.Prelude.{◌≡◌, OnOk, OnErr, ◌++◌};
 ghost use Rattle.desk_words.specs.ReplyTexts.{HasScales, reply_text};
-ghost use Rattle.desk_words.specs.ReplyWords.{field_name, limit_name, post_fault_number};
-ghost use Rattle.desk_words.specs.ReplyWords.{entry_fault_number, refusal_number, refusal_name};
+ghost use Rattle.desk_words.specs.ReplyWords.{state_name, field_name, limit_name};
+ghost use Rattle.desk_words.specs.ReplyWords.{post_fault_number, entry_fault_number};
+ghost use Rattle.desk_words.specs.ReplyWords.{refusal_number, refusal_name};
 
 use crate::fault::WordFault;
 use crate::json_values::print_value;
 use crate::reply_values::reply_value;
-use reg_base::{DocState, EntryFault, List, Memory, PostFault, Scale, SumRow};
+use crate::request::{FieldText, SetText};
+use reg_base::{
+    Code, Comment, Date, DocState, EntryFault, List, Memory, Name, PostFault, Right, Scale, SumRow,
+};
 use std::alloc::Global;
 
 /// The one reply to a line.
@@ -18,9 +22,9 @@ pub enum Reply {
     Refused(Refusal),
 }
 
-/// What an accepted request gives.
-#[derive(Drop)]
-pub enum Answer {
+/// What an accepted change is acknowledged with; a repeated request is given it again.
+#[derive(Clone, Copy)]
+pub enum Acknowledgement {
     /// A document was written, posted or marked.
     Document {
         active: bool,
@@ -28,11 +32,47 @@ pub enum Answer {
         doc: u32,
         state: DocState,
     },
+    /// The books were closed.
+    Closed {
+        /// Documents before this date can't change any more.
+        date: Date,
+    },
+    /// A marked document was removed.
+    Swept {
+        /// The number that the document had.
+        doc: u32,
+    },
+}
+
+/// What an accepted request gives.
+#[derive(Drop)]
+pub enum Answer {
+    Acknowledged(Acknowledgement),
     Balance {
         rows: List<SumRow>,
         /// How many decimals each resource has: a scale for each of a row's sums, in order.
         scales: List<Scale>,
     },
+    Shown(ShownDocument),
+}
+
+/// A document as it is shown: what it says, and the records that it has made.
+#[derive(Drop)]
+pub struct ShownDocument {
+    pub active: bool,
+    /// Empty where the document was given none.
+    pub comment: Comment,
+    pub date: Date,
+    /// The document's number.
+    pub doc: u32,
+    pub head: List<FieldText>,
+    pub key: Option<Code>,
+    /// The document's type; a manual document has none.
+    pub kind: Option<Name>,
+    pub lines: List<List<FieldText>>,
+    /// The spaces that have records of the document.
+    pub sets: List<SetText>,
+    pub state: DocState,
 }
 
 /// Why a request is refused.
@@ -42,9 +82,35 @@ pub enum Refusal {
     BadLine(WordFault),
     /// The configuration has no such clerk.
     UnknownClerk,
+    /// The clerk lacks the right that the operation asks for.
+    NotAllowed {
+        right: Right,
+    },
+    /// The request's number is below the last one that was accepted of its clerk.
+    Stale {
+        last: u32,
+    },
+    /// The number is the last one that was accepted of its clerk, of another request.
+    NumberReused,
+    /// The clerk sees no document of this number.
+    UnknownDoc,
+    /// The operation does not take a document of its state or sort.
+    WrongState {
+        state: DocState,
+    },
     /// A field that the configuration does not take.
     BadField {
         field: Field,
+    },
+    /// The key of the new document is that of another one.
+    KeyTaken {
+        /// The number of the other document.
+        doc: u32,
+    },
+    /// The document's old or new date is before the date to which the books are closed.
+    Closed {
+        /// The date to which the books are closed.
+        date: Date,
     },
     /// One more would pass a limit.
     Limit {
@@ -65,16 +131,26 @@ pub enum Refusal {
 pub enum Field {
     Space,
     Register,
+    Ledger,
     Values,
     Sums,
     Kind,
+    Amount,
+    /// A field of a document type of the configuration.
+    Named(Name),
 }
 
 /// What is limited.
 #[derive(Clone, Copy)]
 pub enum Limit {
+    /// Documents that are kept.
+    Documents,
     /// Document numbers.
     Numbers,
+    /// Records that are kept.
+    Records,
+    /// Lines of a document.
+    Lines,
 }
 
 impl Reply {
@@ -98,7 +174,14 @@ impl Refusal {
         match self {
             Refusal::BadLine(_) => 1,
             Refusal::UnknownClerk => 2,
+            Refusal::NotAllowed { .. } => 3,
+            Refusal::Stale { .. } => 4,
+            Refusal::NumberReused => 5,
+            Refusal::UnknownDoc => 9,
+            Refusal::WrongState { .. } => 10,
             Refusal::BadField { .. } => 11,
+            Refusal::KeyTaken { .. } => 12,
+            Refusal::Closed { .. } => 13,
             Refusal::Limit { .. } => 14,
             Refusal::Rule { .. } => 15,
         }
@@ -111,7 +194,14 @@ impl Refusal {
         match self {
             Refusal::BadLine(_) => "BadLine",
             Refusal::UnknownClerk => "UnknownClerk",
+            Refusal::NotAllowed { .. } => "NotAllowed",
+            Refusal::Stale { .. } => "Stale",
+            Refusal::NumberReused => "NumberReused",
+            Refusal::UnknownDoc => "UnknownDoc",
+            Refusal::WrongState { .. } => "WrongState",
             Refusal::BadField { .. } => "BadField",
+            Refusal::KeyTaken { .. } => "KeyTaken",
+            Refusal::Closed { .. } => "Closed",
             Refusal::Limit { .. } => "Limit",
             Refusal::Rule { .. } => "Rule",
         }
@@ -119,16 +209,19 @@ impl Refusal {
 }
 
 impl Field {
-    /// The field's word in a request.
-    pub fn name(self) -> &'static str
-        ensures { result.now ≡ field_name self }
+    /// The field's word in a request, or its name in the configuration.
+    pub fn name(&self) -> &str
+        ensures { result.now ≡ field_name self.now }
     {
         match self {
             Field::Space => "space",
             Field::Register => "register",
+            Field::Ledger => "ledger",
             Field::Values => "values",
             Field::Sums => "sums",
             Field::Kind => "kind",
+            Field::Amount => "amount",
+            Field::Named(name) => name.as_str(),
         }
     }
 }
@@ -139,8 +232,22 @@ impl Limit {
         ensures { result.now ≡ limit_name self }
     {
         match self {
+            Limit::Documents => "documents",
             Limit::Numbers => "numbers",
+            Limit::Records => "records",
+            Limit::Lines => "lines",
         }
+    }
+}
+
+// The word of a document's state.
+pub(crate) fn state_name(state: DocState) -> &'static str
+    ensures { result.now ≡ state_name state }
+{
+    match state {
+        DocState::Written => "written",
+        DocState::Posted => "posted",
+        DocState::Marked => "marked",
     }
 }
 

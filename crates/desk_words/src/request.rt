@@ -73,3 +73,10 @@ pub struct FilterText {
     pub name: Name,
     pub values: List<Text>,
 }
+
+/// A field of a head or a line as it is given.
+#[derive(Drop)]
+pub struct FieldText {
+    pub name: Name,
+    pub text: Text,
+}

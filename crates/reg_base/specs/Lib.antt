@@ -3,8 +3,10 @@ pub mod Codes
 pub mod Cuts
 pub mod Dates
 pub mod Days
+pub mod Documents
 pub mod Numbers
 pub mod Points
 pub mod Records
 pub mod Results
+pub mod Rights
 pub mod ShortTexts

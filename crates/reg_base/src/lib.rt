@@ -29,6 +29,7 @@ mod order_laws;
 mod point;
 mod read_back;
 mod records;
+mod right;
 mod scale;
 mod short_text;
 mod sums;
@@ -57,6 +58,7 @@ pub use records::{
     Doc, DocRow, DocState, Document, Filter, Found, Item, Mark, Mode, Posting, Rec, Sets, Side,
     SumRow,
 };
+pub use right::Right;
 pub use scale::Scale;
 pub use sums::{print_sum, sum_string};
 pub use text::{Text, join_texts, string_of};

@@ -17,4 +17,6 @@ mod reply_tests;
 #[cfg(test)]
 mod rows;
 #[cfg(test)]
+mod shown_tests;
+#[cfg(test)]
 mod tests;

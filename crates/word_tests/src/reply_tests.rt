@@ -4,8 +4,10 @@ ghost use Rattle.desk_words.specs.ReplyTexts.{HasMissingScale, RefusalHasScales,
 
 use crate::rows::{REFUSED, WHOLE, expect};
 use crate::tests::{line_of, refused, told_of};
-use desk_words::{Answer, Field, Limit, Refusal, Reply};
-use reg_base::{Code, DocState, EntryFault, Line, List, PostFault, Scale, SumRow, Value};
+use desk_words::{Acknowledgement, Answer, Field, Limit, Refusal, Reply};
+use reg_base::{
+    Code, Date, DocState, EntryFault, Line, List, Name, PostFault, Right, Scale, SumRow, Value,
+};
 use std::alloc::Global;
 use std::process::Abort;
 use std::test::Fail;
@@ -58,16 +60,55 @@ fn balance_line(alloc: Global) -> Option<String> {
     done(alloc, balance(alloc)?)
 }
 
+// Documents that changed, each with what is printed of it.
+const CHANGES: [(bool, u32, DocState, &str); 3] = [
+    (
+        true,
+        1,
+        DocState::Posted,
+        "{\"ok\":{\"active\":true,\"doc\":1,\"state\":\"posted\"}}",
+    ),
+    (
+        true,
+        4_294_967_295,
+        DocState::Written,
+        "{\"ok\":{\"active\":true,\"doc\":4294967295,\"state\":\"written\"}}",
+    ),
+    (
+        false,
+        2,
+        DocState::Marked,
+        "{\"ok\":{\"active\":false,\"doc\":2,\"state\":\"marked\"}}",
+    ),
+];
+
+fn acknowledged(alloc: Global, acknowledgement: Acknowledgement) -> Option<String> {
+    done(alloc, Answer::Acknowledged(acknowledgement))
+}
+
 #[test]
-fn accepted_replies_are_printed(rt: HostRuntime) {
+fn acknowledgements_are_printed(rt: HostRuntime) -> Result<(), Fail> {
     let alloc = rt.alloc();
-    let posted = Answer::Document {
-        active: true,
-        doc: 1,
-        state: DocState::Posted,
-    };
-    let wanted = "{\"ok\":{\"active\":true,\"doc\":1,\"state\":\"posted\"}}";
-    expect(&rt, "a document", done(alloc, posted), &WHOLE, wanted);
+    for (active, doc, state, wanted) in &CHANGES {
+        let changed = Acknowledgement::Document {
+            active: *active,
+            doc: *doc,
+            state: *state,
+        };
+        expect(&rt, wanted, acknowledged(alloc, changed), &WHOLE, wanted);
+    }
+    let date = Date::parse("2024-02-01").map_err(|_| "no date")?;
+    let closed = acknowledged(alloc, Acknowledgement::Closed { date });
+    let wanted = "{\"ok\":{\"closed\":\"2024-02-01T00:00:00\"}}";
+    expect(&rt, "closed books", closed, &WHOLE, wanted);
+    let swept = acknowledged(alloc, Acknowledgement::Swept { doc: 3 });
+    expect(&rt, "a removal", swept, &WHOLE, "{\"ok\":{\"doc\":3}}");
+    Ok(())
+}
+
+#[test]
+fn balances_are_printed(rt: HostRuntime) {
+    let alloc = rt.alloc();
     let empty = Answer::Balance {
         rows: List::new(alloc),
         scales: List::new(alloc),
@@ -151,18 +192,154 @@ fn refusals_are_printed(rt: HostRuntime) {
     let alloc = rt.alloc();
     let wanted = "\"code\":2,\"name\":\"UnknownClerk\"";
     expect_refused(&rt, alloc, Refusal::UnknownClerk, wanted);
-    let refusal = Refusal::BadField {
-        field: Field::Space,
-    };
-    let wanted = "\"code\":11,\"field\":\"space\",\"name\":\"BadField\"";
-    expect_refused(&rt, alloc, refusal, wanted);
-    let refusal = Refusal::Limit {
-        which: Limit::Numbers,
-        number: 4_294_967_295,
-    };
-    let wanted = "\"code\":14,\"name\":\"Limit\",\"number\":4294967295,\"which\":\"numbers\"";
-    expect_refused(&rt, alloc, refusal, wanted);
     let told = told_of(alloc, &Line::TooLong { bytes: 1_048_577 });
     let wanted = "\"bytes\":1048577,\"code\":1,\"kind\":1,\"name\":\"BadLine\"";
     expect(&rt, "a long line", told, &REFUSED, wanted);
+}
+
+// The rights, each with the members that are printed where a clerk lacks it.
+const RIGHTS: [(Right, &str); 6] = [
+    (
+        Right::Write,
+        "\"code\":3,\"name\":\"NotAllowed\",\"right\":\"write\"",
+    ),
+    (
+        Right::Post,
+        "\"code\":3,\"name\":\"NotAllowed\",\"right\":\"post\"",
+    ),
+    (
+        Right::Manual,
+        "\"code\":3,\"name\":\"NotAllowed\",\"right\":\"manual\"",
+    ),
+    (
+        Right::Read,
+        "\"code\":3,\"name\":\"NotAllowed\",\"right\":\"read\"",
+    ),
+    (
+        Right::Lock,
+        "\"code\":3,\"name\":\"NotAllowed\",\"right\":\"lock\"",
+    ),
+    (
+        Right::Admin,
+        "\"code\":3,\"name\":\"NotAllowed\",\"right\":\"admin\"",
+    ),
+];
+
+#[test]
+fn rights_and_numbers_are_told(rt: HostRuntime) {
+    let alloc = rt.alloc();
+    for (right, wanted) in &RIGHTS {
+        expect_refused(&rt, alloc, Refusal::NotAllowed { right: *right }, wanted);
+    }
+    let wanted = "\"code\":4,\"last\":2,\"name\":\"Stale\"";
+    expect_refused(&rt, alloc, Refusal::Stale { last: 2 }, wanted);
+    let wanted = "\"code\":5,\"name\":\"NumberReused\"";
+    expect_refused(&rt, alloc, Refusal::NumberReused, wanted);
+}
+
+// Fields, each with the members that are printed where the configuration does not take it.
+const FIELDS: [(Field, &str); 7] = [
+    (
+        Field::Space,
+        "\"code\":11,\"field\":\"space\",\"name\":\"BadField\"",
+    ),
+    (
+        Field::Register,
+        "\"code\":11,\"field\":\"register\",\"name\":\"BadField\"",
+    ),
+    (
+        Field::Ledger,
+        "\"code\":11,\"field\":\"ledger\",\"name\":\"BadField\"",
+    ),
+    (
+        Field::Values,
+        "\"code\":11,\"field\":\"values\",\"name\":\"BadField\"",
+    ),
+    (
+        Field::Sums,
+        "\"code\":11,\"field\":\"sums\",\"name\":\"BadField\"",
+    ),
+    (
+        Field::Kind,
+        "\"code\":11,\"field\":\"kind\",\"name\":\"BadField\"",
+    ),
+    (
+        Field::Amount,
+        "\"code\":11,\"field\":\"amount\",\"name\":\"BadField\"",
+    ),
+];
+
+// Limits, each with the members that are printed where one more would pass it.
+const LIMITS: [(Limit, u64, &str); 4] = [
+    (
+        Limit::Documents,
+        500_000,
+        "\"code\":14,\"name\":\"Limit\",\"number\":500000,\"which\":\"documents\"",
+    ),
+    (
+        Limit::Numbers,
+        4_294_967_295,
+        "\"code\":14,\"name\":\"Limit\",\"number\":4294967295,\"which\":\"numbers\"",
+    ),
+    (
+        Limit::Records,
+        2_000_000,
+        "\"code\":14,\"name\":\"Limit\",\"number\":2000000,\"which\":\"records\"",
+    ),
+    (
+        Limit::Lines,
+        1_000,
+        "\"code\":14,\"name\":\"Limit\",\"number\":1000,\"which\":\"lines\"",
+    ),
+];
+
+#[test]
+fn fields_and_limits_are_told(rt: HostRuntime) -> Result<(), Fail> {
+    let alloc = rt.alloc();
+    for (field, wanted) in &FIELDS {
+        expect_refused(&rt, alloc, Refusal::BadField { field: *field }, wanted);
+    }
+    let field = Field::Named(Name::parse("quantity").ok_or("no name")?);
+    let wanted = "\"code\":11,\"field\":\"quantity\",\"name\":\"BadField\"";
+    expect_refused(&rt, alloc, Refusal::BadField { field }, wanted);
+    for (which, number, wanted) in &LIMITS {
+        let refusal = Refusal::Limit {
+            which: *which,
+            number: *number,
+        };
+        expect_refused(&rt, alloc, refusal, wanted);
+    }
+    Ok(())
+}
+
+// States, each with the members that are printed where the operation does not take it.
+const STATES: [(DocState, &str); 3] = [
+    (
+        DocState::Written,
+        "\"code\":10,\"name\":\"WrongState\",\"state\":\"written\"",
+    ),
+    (
+        DocState::Posted,
+        "\"code\":10,\"name\":\"WrongState\",\"state\":\"posted\"",
+    ),
+    (
+        DocState::Marked,
+        "\"code\":10,\"name\":\"WrongState\",\"state\":\"marked\"",
+    ),
+];
+
+#[test]
+fn what_stands_against_a_document_is_told(rt: HostRuntime) -> Result<(), Fail> {
+    let alloc = rt.alloc();
+    for (state, wanted) in &STATES {
+        expect_refused(&rt, alloc, Refusal::WrongState { state: *state }, wanted);
+    }
+    let wanted = "\"code\":9,\"name\":\"UnknownDoc\"";
+    expect_refused(&rt, alloc, Refusal::UnknownDoc, wanted);
+    let wanted = "\"code\":12,\"doc\":7,\"name\":\"KeyTaken\"";
+    expect_refused(&rt, alloc, Refusal::KeyTaken { doc: 7 }, wanted);
+    let date = Date::parse("2024-02-01").map_err(|_| "no date")?;
+    let wanted = "\"code\":13,\"date\":\"2024-02-01T00:00:00\",\"name\":\"Closed\"";
+    expect_refused(&rt, alloc, Refusal::Closed { date }, wanted);
+    Ok(())
 }

@@ -1,4 +1,4 @@
-use Rattle.desk_run.proofs.AnsweredBalances.{call_balances}
+use Rattle.desk_run.proofs.AnsweredLaws.{call_laws}
 use Rattle.desk_run.proofs.CallEnds.{status-usage}
 use Rattle.desk_run.proofs.Completeness.{call_succeeds}
 use Rattle.desk_run.specs.ConfigFiles.{shelf_of}
@@ -24,8 +24,8 @@ returns-clause-words g c = status-usage _
     c.run_words-end.new.input c.run_words-end.new.out)
     c.run_words-end.result _ c.end_status.ensures c.run_words-end.ensures.ends
 
-pub returns-clause-balances : goal.returns-clause-balances
-returns-clause-balances g c = call_balances _
+pub returns-clause-laws : goal.returns-clause-laws
+returns-clause-laws g c = call_laws _
     (shelf_of g.F.Shelf.files g.F.Shelf.faults c.args.shelf.now)
     (shelf_of g.F.Shelf.files g.F.Shelf.faults c.run_words-end.new.shelf)
     (streams_of g.S.Device.left g.S.Device.read_faults g.O.Device.taken g.O.Device.write_faults

@@ -16,8 +16,8 @@ use Rattle.desk_core.specs.DeskViews.{DeskView}
 use Rattle.desk_core.proofs.DeskLemmas.{question_answer-balance}
 use Rattle.desk_core.proofs.desk.Desk.answer_balance.Goals as goal
 
-pub returns : goal.returns
-returns c =
+pub returns-clause-value : goal.returns-clause-value
+returns-clause-value c =
     let register = c.in-Some-get.register.now in
     let shown : (n : ℕ) (cut : Cut) (documents : List Document) → List SumRow =
     λ n cut documents. sum_rows n None
@@ -30,7 +30,11 @@ returns c =
     let scales : c.in_ok-scales.scales ≡ map (λ (r : Resource). r.scale) register.resources =
     c.in_ok-scales.ensures ∙ ap (map (λ (r : Resource). r.scale)) c.as_slice-resources.ensures in
     let answered = question_answer-balance
-    (record { documents = c.self.inside.documents.items; top = c.self.inside.top })
+    (record {
+      documents = c.self.inside.documents.items;
+      top = c.self.inside.top;
+      lasts = c.self.inside.lasts.items;
+    })
     c.self.inside.config c.args.balance.now c.in-Some.place register
     (sym c.in-Some.ensures) (sym c.in-Some-get.ensures) c.if-not-register.false c.in_ok-rows.rows
     rows c.in_ok-scales.scales scales in

@@ -1,4 +1,4 @@
--- The balances that a call answered, at each of its ends.
+-- The laws hold among the lines that a call answered, at each of its ends.
 use Rattle.std.proofs.Common.{◌≡◌, ℕ, ◌+◌, List, [], ◌∷◌, ◌++◌, length, take, sym, ap, ◌∙◌, inl}
 use Rattle.std.proofs.Common.{inr, arith, take_all}
 use Rattle.std.specs.Prelude.{Result, Ok, Err}
@@ -16,39 +16,39 @@ use Rattle.desk_run.specs.Inputs.{desk_under}
 use Rattle.desk_run.specs.Runs.{Streams, AnswersLines, StopsAtWrite}
 use Rattle.desk_run.specs.ConfigFiles.{ShelfState}
 use Rattle.desk_run.specs.Ends.{IsRun, RunsFile, Ends, KeepsOut, HoldsConfig}
-use Rattle.desk_run.specs.Ends.{AnswersBalances}
+use Rattle.desk_run.specs.Ends.{KeepsLaws}
 use Rattle.desk_run.proofs.RunEnds.{first_none}
-use Rattle.desk_model.proofs.ForAbove.{BalancesHold-always}
+use Rattle.desk_model.proofs.ForAbove.{LawsHold-always}
 use Rattle.desk_run.proofs.RunLemmas.{answers_to-more}
 use Rattle.desk_run.proofs.Completeness.{held_config}
 
 -- nothing was answered
-balances_none : (desk : Desk) (before now : Streams) → KeepsOut before now
-    → AnswersBalances desk before now
-balances_none desk before now keeps = record {
+laws_none : (desk : Desk) (before now : Streams) → KeepsOut before now
+    → KeepsLaws desk before now
+laws_none desk before now keeps = record {
   lines = [];
   first = first_none before.left;
   count = 0;
   out = rw keeps (Appends-nil before.taken);
-  balances = BalancesHold-always desk [];
+  laws = LawsHold-always desk [];
 }
 
 -- lines were answered whole
-balances_lines : (desk after : Desk) (lines : List Line) (before now : Streams)
-    → AnswersLines desk after lines before now → AnswersBalances desk before now
-balances_lines desk after lines before now answered = record {
+laws_lines : (desk after : Desk) (lines : List Line) (before now : Streams)
+    → AnswersLines desk after lines before now → KeepsLaws desk before now
+laws_lines desk after lines before now answered = record {
   lines = lines;
   first = answered.first;
   count = length (answers_to desk lines);
   out = rw (take_all (length (answers_to desk lines)) (answers_to desk lines)
       (omega arith)) answered.out;
-  balances = answered.balances;
+  laws = answered.laws;
 }
 
 -- the last line was answered in part
-balances_part : (desk after : Desk) (before now : Streams)
-    → StopsAtWrite desk after before now → AnswersBalances desk before now
-balances_part desk after before now stops =
+laws_part : (desk after : Desk) (before now : Streams)
+    → StopsAtWrite desk after before now → KeepsLaws desk before now
+laws_part desk after before now stops =
     let whole = answers_to desk stops.lines in
     let part = line_answer (desk_after desk stops.lines) stops.line in
     let same : take (length whole + stops.count) (answers_to desk (stops.lines ++ stops.line ∷ []))
@@ -60,53 +60,53 @@ balances_part desk after before now stops =
       first = stops.first;
       count = length whole + stops.count;
       out = rw same stops.out;
-      balances = stops.balances;
+      laws = stops.laws;
     }
 
-file_balances : (words : List (List ℕ)) (shelf shelf_now : ShelfState) (before now : Streams)
+file_laws : (words : List (List ℕ)) (shelf shelf_now : ShelfState) (before now : Streams)
     (config : Config) (name : List ℕ) (end : Result (Unit {0}) Fault)
     → HoldsConfig words shelf config → IsRun words name
     → RunsFile name shelf shelf_now before now end
-    → AnswersBalances (desk_under config) before now
-file_balances words shelf shelf_now before now config name (Ok done) holds is_run run =
+    → KeepsLaws (desk_under config) before now
+file_laws words shelf shelf_now before now config name (Ok done) holds is_run run =
     let same = held_config words shelf config name run.config holds is_run run.accepted in
-    rw (sym same) (balances_lines (desk_under run.config) run.run.0 run.run.1.lines before now
+    rw (sym same) (laws_lines (desk_under run.config) run.run.0 run.run.1.lines before now
     run.run.1.answered)
-file_balances words shelf shelf_now before now config name (Err Usage) holds is_run run = absurd run
-file_balances words shelf shelf_now before now config name (Err (Configuration fault)) holds is_run
-    run = balances_none (desk_under config) before now run.1
-file_balances words shelf shelf_now before now config name (Err (Rules fault)) holds is_run run =
-    balances_none (desk_under config) before now run.1
-file_balances words shelf shelf_now before now config name (Err Memory) holds is_run (inl keeps) =
-    balances_none (desk_under config) before now keeps
-file_balances words shelf shelf_now before now config name (Err Memory) holds is_run (inr run) =
+file_laws words shelf shelf_now before now config name (Err Usage) holds is_run run = absurd run
+file_laws words shelf shelf_now before now config name (Err (Configuration fault)) holds is_run
+    run = laws_none (desk_under config) before now run.1
+file_laws words shelf shelf_now before now config name (Err (Rules fault)) holds is_run run =
+    laws_none (desk_under config) before now run.1
+file_laws words shelf shelf_now before now config name (Err Memory) holds is_run (inl keeps) =
+    laws_none (desk_under config) before now keeps
+file_laws words shelf shelf_now before now config name (Err Memory) holds is_run (inr run) =
     let same = held_config words shelf config name run.config holds is_run run.accepted in
-    rw (sym same) (balances_lines (desk_under run.config) run.run.0 run.run.1.lines before now
+    rw (sym same) (laws_lines (desk_under run.config) run.run.0 run.run.1.lines before now
     run.run.1.answered)
-file_balances words shelf shelf_now before now config name (Err Read) holds is_run run =
+file_laws words shelf shelf_now before now config name (Err Read) holds is_run run =
     let same = held_config words shelf config name run.config holds is_run run.accepted in
-    rw (sym same) (balances_lines (desk_under run.config) run.run.0 run.run.1.lines before now
+    rw (sym same) (laws_lines (desk_under run.config) run.run.0 run.run.1.lines before now
     run.run.1.answered)
-file_balances words shelf shelf_now before now config name (Err Write) holds is_run run =
+file_laws words shelf shelf_now before now config name (Err Write) holds is_run run =
     let same = held_config words shelf config name run.config holds is_run run.accepted in
-    rw (sym same) (balances_part (desk_under run.config) run.run.0 before now run.run.1)
-file_balances words shelf shelf_now before now config name (Err File) holds is_run run =
-    balances_none (desk_under config) before now run.1
-file_balances words shelf shelf_now before now config name (Err FileTooLong) holds is_run run =
-    balances_none (desk_under config) before now run.1
-file_balances words shelf shelf_now before now config name (Err InputTooLong) holds is_run run =
+    rw (sym same) (laws_part (desk_under run.config) run.run.0 before now run.run.1)
+file_laws words shelf shelf_now before now config name (Err File) holds is_run run =
+    laws_none (desk_under config) before now run.1
+file_laws words shelf shelf_now before now config name (Err FileTooLong) holds is_run run =
+    laws_none (desk_under config) before now run.1
+file_laws words shelf shelf_now before now config name (Err InputTooLong) holds is_run run =
     let same = held_config words shelf config name run.config holds is_run run.accepted in
-    rw (sym same) (balances_lines (desk_under run.config) run.run.0 run.run.1.lines before now
+    rw (sym same) (laws_lines (desk_under run.config) run.run.0 run.run.1.lines before now
     run.run.1.answered)
 
 -- what a call answered under the configuration that its file holds
-pub call_balances : (words : List (List ℕ)) (shelf shelf_now : ShelfState) (before now : Streams)
+pub call_laws : (words : List (List ℕ)) (shelf shelf_now : ShelfState) (before now : Streams)
     (end : Result (Unit {0}) Fault)
     → Ends words shelf shelf_now before now end
     → (config : Config) → HoldsConfig words shelf config
-    → AnswersBalances (desk_under config) before now
-call_balances words shelf shelf_now before now end ends config holds = elim ends [
+    → KeepsLaws (desk_under config) before now
+call_laws words shelf shelf_now before now end ends config holds = elim ends [
   | inl usage ↦ absurd (usage.0 holds.name holds.is_run)
   | inr run ↦
-      file_balances words shelf shelf_now before now config run.0 end holds run.1 run.2
+      file_laws words shelf shelf_now before now config run.0 end holds run.1 run.2
 ]

@@ -3,15 +3,16 @@ use Rattle.std.proofs.Common.{◌≡◌, ◌+◌, ◌<◌, List, ap, ◌∙◌, 
 use Rattle.reg_base.specs.declared.records.Document.{Document}
 use Rattle.desk_model.specs.State.{Desk}
 use Rattle.desk_model.specs.Desk.{greatest_number}
+use Rattle.desk_core.specs.declared.outcome.Change.TheVariants.{Put}
 use Rattle.desk_core.specs.Invariants.{AreKept}
-use Rattle.desk_core.specs.DeskViews.{DeskView, IsNext, desk_with}
-use Rattle.desk_core.proofs.PlanLemmas.{AreKept-next, desk_with-behind}
-use Rattle.desk_core.proofs.desk.Desk.commit.Goals as goal
+use Rattle.desk_core.specs.DeskViews.{DeskView, IsNext, changed}
+use Rattle.desk_core.proofs.PlanLemmas.{AreKept-next, changed-behind}
+use Rattle.desk_core.proofs.desk.Desk.put.Goals as goal
 
 pub invariant_of-self : goal.invariant_of-self
 invariant_of-self c =
-    let document = c.in-Some.document in
-    let next : IsNext c.args.self.now.desk document = c.requires.next document c.in-Some.is in
+    let document = c.args.document in
+    let next : IsNext c.args.self.now.desk document = c.requires.next in
     let top : c.self.inside.top ≡ c.args.self.now.desk.serial.top =
     ap (λ (v : DeskView). v.desk.serial.top) c.self.view_is in
     subst (λ (ds : List Document). AreKept ds document.doc.number) (sym c.put_behind.ensures)
@@ -19,18 +20,22 @@ invariant_of-self c =
     (next.number ∙ ap (λ n. n + 1) (sym top))
     (subst (λ n. n < greatest_number) (sym top) next.left) next.short)
 
-pub returns-in-Some : goal.returns-in-Some
-returns-in-Some c =
-    let document = c.in-Some.document in
+pub returns-clause-desk : goal.returns-clause-desk
+returns-clause-desk c =
+    let document = c.args.document in
     let inner : Desk = record {
       setting = record { config = c.self.inside.config };
-      serial = record { documents = c.self.inside.documents.items; top = c.self.inside.top };
+      serial = record {
+        documents = c.self.inside.documents.items;
+        top = c.self.inside.top;
+        lasts = c.self.inside.lasts.items;
+      };
     } in
     let same : inner ≡ c.args.self.now.desk = ap (λ (v : DeskView). v.desk) c.self.view_is in
     let next : IsNext inner document =
-    subst (λ (d : Desk). IsNext d document) (sym same)
-    (c.requires.next document c.in-Some.is) in
+    subst (λ (d : Desk). IsNext d document) (sym same) c.requires.next in
     ap (λ (ds : List Document). record inner
-    { serial = record { documents = ds; top = document.doc.number } }) c.put_behind.ensures
-    ∙ desk_with-behind inner document c.self.invariant.numbered next.number
-    ∙ (λ i. desk_with (same i) (sym c.in-Some.is i))
+    { serial = record inner.serial { documents = ds; top = document.doc.number } })
+    c.put_behind.ensures
+    ∙ changed-behind inner document c.self.invariant.numbered next.number
+    ∙ ap (λ (d : Desk). changed d (Put document)) same
