@@ -1,0 +1,6 @@
+mod HolderLemmas
+mod PairLemmas
+mod PlaceLemmas
+mod SeenLemmas
+mod SoundLemmas
+mod WorkedRows
