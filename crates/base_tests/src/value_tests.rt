@@ -1,6 +1,8 @@
 //! Tests over values from outside: spellings, and each call that allocates with ample memory.
 use crate::rows::expect;
-use reg_base::{Cut, Date, DateFault, Memory, Num, NumFault, Point, inside, print_sum, sum_string};
+use reg_base::{
+    Comment, Cut, Date, DateFault, Memory, Num, NumFault, Point, inside, print_sum, sum_string,
+};
 use std::alloc::Global;
 use std::test::Fail;
 
@@ -165,4 +167,48 @@ fn is_point(alloc: Global, text: &str) -> bool {
 #[test]
 fn a_point_is_printed_as_it_is_read_and_is_no_cut(rt: HostRuntime) {
     expect(&rt, &FIRST, is_point(rt.alloc(), FIRST));
+}
+
+// Texts that are comments: the last two have 64 bytes.
+const COMMENTS: [&str; 6] = [
+    "",
+    "late, \"sic\"",
+    "\u{7e}\u{a0}",
+    "caf\u{e9} \u{20ac} \u{1f600}",
+    "0123456789012345678901234567890123456789012345678901234567890123",
+    "\u{e9}\u{e9}\u{e9}\u{e9}\u{e9}\u{e9}\u{e9}\u{e9}\u{e9}\u{e9}\u{e9}\u{e9}\
+     \u{e9}\u{e9}\u{e9}\u{e9}\u{e9}\u{e9}\u{e9}\u{e9}\u{e9}\u{e9}\u{e9}\u{e9}\
+     \u{e9}\u{e9}\u{e9}\u{e9}\u{e9}\u{e9}\u{e9}\u{e9}",
+];
+
+// Texts that are none: the last has 65 bytes.
+const NO_COMMENTS: [&str; 7] = [
+    "\u{0}",
+    "a\tb",
+    "late\u{1f}",
+    "\u{7f}",
+    "\u{80}",
+    "late \u{9f}",
+    "01234567890123456789012345678901234567890123456789012345678901234",
+];
+
+fn is_comment(alloc: Global, text: &str) -> bool {
+    match Comment::parse(alloc, text) {
+        Ok(Some(comment)) => comment.as_str() == text,
+        _ => false,
+    }
+}
+
+fn is_no_comment(alloc: Global, text: &str) -> bool {
+    matches!(Comment::parse(alloc, text), Ok(None))
+}
+
+#[test]
+fn a_comment_is_short_and_controls_no_terminal(rt: HostRuntime) {
+    for text in &COMMENTS {
+        expect(&rt, text, is_comment(rt.alloc(), text));
+    }
+    for text in &NO_COMMENTS {
+        expect(&rt, text, is_no_comment(rt.alloc(), text));
+    }
 }

@@ -1,5 +1,6 @@
 pub mod Balances
 pub mod Codes
+pub mod Comments
 pub mod Cuts
 pub mod Dates
 pub mod Days

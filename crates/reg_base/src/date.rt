@@ -42,6 +42,13 @@ pub enum DateFault {
 }
 
 impl Date {
+    /// The first date, 2000-01-01T00:00:00.
+    pub fn first() -> Date
+        ensures { result ≡ 0 }
+    {
+        Date { seconds: 0 }
+    }
+
     /// The date so many seconds after the first one, where it lies in the century.
     pub fn from_seconds(seconds: u32) -> Option<Date>
         ensures { SomeIff result (seconds < 3_155_760_000) seconds }

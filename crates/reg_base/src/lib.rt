@@ -1,15 +1,16 @@
-//! Plain types of registers: texts, codes, dates, points, records and why they are refused, and
-//! what a balance is.
+//! Plain types of registers: texts, codes, comments, dates, points, documents, records and why they
+//! are refused, and what a balance is.
 //!
 //! Means: a text is its bytes, a date its seconds, a list its elements; `records_of` in
 //! `specs/Records.antt` gives a register's records, and `balance_of` in `specs/Balances.antt`
-//! sums them. Contracts of all crates above speak of these.
+//! sums them; `specs/Documents.antt` says what it means to put, replace and remove a document.
+//! Contracts of all crates above speak of these.
 //!
 //! Stands on: `jiff_core` for the calendar.
 //!
-//! Promises: each `parse` accepts exactly its spelling and names the first fault; what is printed
-//! is exactly the text that `specs/` gives, and reads back; orders are total and tell all apart; a
-//! balance does not depend on the order of the records.
+//! Promises: each `parse` accepts exactly its spelling, and those of numbers, dates, points and
+//! cuts name the first fault; the four are printed exactly as `specs/` says, and read back; orders
+//! are total and tell all apart; a balance does not depend on the order of the records.
 //!
 //! Leaves open: how much memory a text takes, and when memory is refused.
 #![tactic(auto)]
