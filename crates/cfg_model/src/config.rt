@@ -4,7 +4,7 @@ ghost use Rattle.toml.specs.View.{table_view};
 ghost use Rattle.reg_base.specs.Results.{Gives, GivesAs, some_or};
 ghost use Rattle.cfg_model.specs.declared.fault.CfgFault.TheVariants.{Memory, NotToml};
 ghost use Rattle.cfg_model.specs.Limits.{IsWithinLimits};
-ghost use Rattle.cfg_model.specs.Places.{clerk_place, register_place};
+ghost use Rattle.cfg_model.specs.Places.{clerk_place, kind_place, ledger_place, register_place};
 ghost use Rattle.cfg_model.specs.Reading.{read_config, config_of, toml_document};
 ghost use Rattle.cfg_model.specs.Resolving.{HasNamesInOrder, IsInOrder, NamesResolve};
 ghost use Rattle.cfg_model.specs.Walk.{known_keys};
@@ -98,6 +98,20 @@ impl Config {
             .as_slice()
             .iter()
             .position(|r| r.name == *name)
+    }
+
+    /// The place of the ledger of this name, counted from 0.
+    pub fn ledger_place(&self, name: &Name) -> Option<usize>
+        ensures { result ≡ ledger_place name.now self.now.ledgers }
+    {
+        self.ledgers.as_slice().iter().position(|l| l.name == *name)
+    }
+
+    /// The place of the document type of this name, counted from 0.
+    pub fn kind_place(&self, name: &Name) -> Option<usize>
+        ensures { result ≡ kind_place name.now self.now.kinds }
+    {
+        self.kinds.as_slice().iter().position(|k| k.name == *name)
     }
 
     /// The place of the clerk of this name, counted from 0.
