@@ -3,7 +3,7 @@ use Rattle.std.proofs.Common.{◌≡◌, ℕ, ◌+◌, ◌<◌, ◌≤◌, ◌�
 use Rattle.std.proofs.Common.{◌∷◌, ◌++◌, length, drop, get_or, refl, ap, ◌∙◌, sym, suc, add-one}
 use Rattle.std.proofs.Common.{drop-cons, append-nil, append_assoc}
 use Rattle.std.proofs.lemmas.List.{drop_all}
-use Rattle.desk_model.specs.Manuals.{values_for, with_front}
+use Rattle.desk_model.specs.GivenRecords.{values_for, with_front}
 
 none-behind : {X : Type 0} (first : Option X) → with_front first None ≡ None
 none-behind None = refl

@@ -1,472 +1,247 @@
--- What a change of documents comes to, and that its document may be committed.
-use Rattle.std.proofs.Common.{◌≡◌, ℕ, ◌+◌, ◌<◌, ◌≤◌, Bool, true, false, cond, max, nat_le, nat_lt}
-use Rattle.std.proofs.Common.{Option, Some, None, is_none, List, [], ◌∷◌, ◌++◌, map, filter, length}
-use Rattle.std.proofs.Common.{length-append, get_or, All, Result, Ok, Err, IfOk, refl, ap, ◌∙◌}
-use Rattle.std.proofs.Common.{sym, subst, arith, suc}
-use Rattle.std.specs.List.Sorted.{IsStrictlyIncreasing}
-use Rattle.std.specs.Option.{ForSome}
-use Rattle.std.proofs.Math.Seq.{get_or-append_seam}
+-- What a plan comes to, once its document is made and the limits are asked.
+use Rattle.std.proofs.Common.{◌≡◌, ℕ, ◌+◌, ◌-◌, ◌≤◌, Bool, true, false, cond, max, nat_le}
+use Rattle.std.proofs.Common.{Option, Some, None, IsSome, is_none, length, Result, Ok, Err}
+use Rattle.std.proofs.Common.{refl, ap, ◌∙◌, sym, subst, arith}
 use Rattle.std.proofs.lemmas.Bool.Decides.{nat_tests}
-use Rattle.std.proofs.lemmas.List.{get_or_append_left, map-append}
-use Rattle.std.proofs.lemmas.List.Elements.{All-append, All-cons, All-map}
-use Rattle.reg_base.specs.declared.records.Rec.{Rec}
 use Rattle.reg_base.specs.declared.records.Doc.{Doc}
-use Rattle.reg_base.specs.declared.records.Sets.{Sets}
 use Rattle.reg_base.specs.declared.records.Document.{Document}
-use Rattle.reg_base.specs.Results.{◌>>=◌, unless, each}
-use Rattle.cfg_model.specs.declared.config.Config.{Config}
-use Rattle.desk_words.specs.declared.request.Request.{Request}
-use Rattle.desk_words.specs.declared.request.Manual.{Manual as ManualRequest}
-use Rattle.desk_words.specs.declared.reply.Reply.{Reply}
+use Rattle.reg_base.specs.Documents.{document_at, with_document, without_document}
+use Rattle.reg_base.specs.Results.{◌>>=◌, unless}
 use Rattle.desk_words.specs.declared.reply.Refusal.{Refusal}
-use Rattle.desk_words.specs.declared.reply.Refusal.TheVariants.{Limit, Rule}
-use Rattle.reg_base.specs.declared.fault.PostFault.TheVariants.{TooManyRecords}
-use Rattle.desk_words.specs.declared.reply.Limit.TheVariants.{Numbers}
-use Rattle.desk_words.specs.ReplyTexts.{reply_text}
-use Rattle.desk_model.specs.declared.plan.Given.{Given}
-use Rattle.desk_model.specs.declared.plan.Source.{Source}
-use Rattle.desk_model.specs.declared.plan.Source.TheVariants.{ByHand}
+use Rattle.desk_words.specs.declared.reply.Refusal.TheVariants.{Limit}
+use Rattle.desk_words.specs.declared.reply.Limit.{Limit as LimitOf}
+use Rattle.desk_words.specs.declared.reply.Limit.TheVariants.{Documents, Records}
+use Rattle.desk_words.specs.declared.reply.Acknowledgement.TheVariants.{Document as Stands, Swept}
+use Rattle.desk_words.specs.declared.reply.Answer.TheVariants.{Acknowledged}
 use Rattle.desk_model.specs.declared.plan.Plan.{Plan}
-use Rattle.desk_model.specs.State.{Setting, State, Desk}
-use Rattle.reg_base.specs.Documents.{with_document}
-use Rattle.desk_model.specs.Plans.{Sight, Change, Meaning}
-use Rattle.desk_model.specs.Manuals.{given_sets, manual_doc, plan_manual}
-use Rattle.desk_model.specs.RecordSets.{record_set, record_sets, is_made, with_lines}
-use Rattle.desk_model.specs.Effects.{Effect, Tests}
-use Rattle.desk_model.specs.Stops.{Stop, or_stop}
-use Rattle.desk_model.specs.Serial.{document_from}
-use Rattle.desk_model.specs.Effects.{effect_with, acknowledgement_of}
-use Rattle.desk_model.specs.Serial.{plan_effect, change_effect}
-use Rattle.desk_model.specs.Desk.{meaning_at, command_at, effect_at, tests_of, next_number}
-use Rattle.desk_model.specs.Desk.{Event, number_is_left, greatest_number, event_of, step}
-use Rattle.desk_model.specs.declared.last.Last.{Last}
-use Rattle.desk_model.specs.LastRequests.{lasts_with}
-use Rattle.desk_words.specs.RequestTexts.{request_text}
-use Rattle.desk_words.specs.declared.reply.Answer.{Answer}
-use Rattle.desk_words.specs.declared.reply.Answer.TheVariants.{Acknowledged, Balance, Shown}
-use Rattle.desk_words.specs.declared.reply.Reply.TheVariants.{Done}
-use Rattle.desk_words.specs.declared.reply.Acknowledgement.{Acknowledgement}
-use Rattle.desk_words.specs.declared.reply.Acknowledgement.TheVariants.{Document as Stands}
-use Rattle.desk_core.specs.declared.outcome.Change.{Change as CoreChange}
-use Rattle.desk_core.specs.declared.outcome.Change.TheVariants.{Put}
-use Rattle.desk_core.specs.declared.outcome.Entry.{Entry}
-use Rattle.desk_core.specs.declared.outcome.Outcome.TheVariants.{Replies, Changes}
-use Rattle.desk_core.specs.declared.outcome.Prepared.{Prepared}
-use Rattle.desk_core.specs.Invariants.{AreKept, HasShortSets, numbers_of}
-use Rattle.desk_core.specs.DeskViews.{changed, desk_with, lasts_and, MayChange}
-use Rattle.desk_core.specs.Outcomes.{IsAnswer, last_with, Leaves, Comes, Prepares}
-use Rattle.desk_core.proofs.DeskLemmas.{with_document-behind}
+use Rattle.desk_model.specs.declared.plan.Source.{Source}
+use Rattle.desk_model.specs.declared.plan.Source.TheVariants.{ByHand, Kept, Nothing, Removed}
+use Rattle.desk_model.specs.State.{State, Desk}
+use Rattle.desk_model.specs.Plans.{Sight}
+use Rattle.desk_model.specs.States.{number_with}
+use Rattle.desk_model.specs.Limits.{limits_of, records_limit, within_limit, record_count}
+use Rattle.desk_model.specs.Limits.{records_in, records_before, records_with, most_documents}
+use Rattle.desk_model.specs.Limits.{most_kept_records, documents_with_plan}
+use Rattle.desk_model.specs.Effects.{effect_with, acknowledgement_of, documents_with}
+use Rattle.desk_model.specs.Stops.{or_stop}
+use Rattle.desk_core.specs.declared.outcome.Change.TheVariants.{Put, Remove}
+use Rattle.desk_core.specs.declared.outcome.Outcome.TheVariants.{Changes}
+use Rattle.desk_core.specs.Invariants.{HasShortLists, AreKept}
+use Rattle.desk_core.specs.DeskViews.{Fits}
+use Rattle.desk_core.specs.Outcomes.{Comes, IsPut, Leaves, made_effect}
+use Rattle.desk_core.specs.Sights.{IsSightOf, Suits, RemovesOne, sight_at}
+use Rattle.desk_core.proofs.DocumentLists.{number-at, All-at, records-with, length-with}
 
--- ---- a document behind the others
+-- ---- what is seen
 
--- a number above all others stands behind rising ones
-IsStrictlyIncreasing-behind : (xs : List ℕ) (top n : ℕ) → All (λ x. x ≤ top) xs → top < n →
-    IsStrictlyIncreasing xs → IsStrictlyIncreasing (xs ++ n ∷ [])
-IsStrictlyIncreasing-behind xs top n below above rising =
-    λ k within. at k within (nat_lt (k + 1) (length xs)) refl
+-- the document that is seen stands at its number, and no number is drawn beside it
+record IsThere (state : State) (sight : Sight) (b : Document) : Type 0 where
+  at_number : document_at b.doc.number state.documents ≡ Some b
+  undrawn : sight.drawn ≡ 0
+
+seen-there : (state : State) (sight : Sight) → IsSightOf state sight → (b : Document) →
+    sight.before ≡ Some b → IsThere state sight b
+seen-there state sight seen b is = at seen.doc seen.same
   where
-    at : (k : ℕ) → k + 1 < length (xs ++ n ∷ []) → (b : Bool) → nat_lt (k + 1) (length xs) ≡ b →
-        get_or (xs ++ n ∷ []) k 0 < get_or (xs ++ n ∷ []) (k + 1) 0
-    at k within true is =
-        let inner : k + 1 < length xs = grind (arith, nat_tests) in
-        let first : get_or (xs ++ n ∷ []) k 0 ≡ get_or xs k 0 =
-        get_or_append_left xs (n ∷ []) 0 k (omega arith) in
-        let second : get_or (xs ++ n ∷ []) (k + 1) 0 ≡ get_or xs (k + 1) 0 =
-        get_or_append_left xs (n ∷ []) 0 (k + 1) inner in
-        let rises : get_or xs k 0 < get_or xs (k + 1) 0 = rising k inner in
-        omega arith
-    at k within false is =
-        let outer : length xs ≤ k + 1 = grind (arith, nat_tests) in
-        let last : k + 1 ≡ length xs = omega (arith, length-append xs (n ∷ [])) in
-        let first : get_or (xs ++ n ∷ []) k 0 ≡ get_or xs k 0 =
-        get_or_append_left xs (n ∷ []) 0 k (omega arith) in
-        let second : get_or (xs ++ n ∷ []) (k + 1) 0 ≡ n = ap (λ j. get_or (xs ++ n ∷ []) j 0) last
-        ∙ get_or-append_seam xs n [] 0 in
-        let low : get_or xs k 0 ≤ top = below k 0 (omega arith) in
-        omega arith
-
--- what is kept is kept with a document behind it
-pub AreKept-next : (documents : List Document) (top : ℕ) (d : Document) → AreKept documents top →
-    d.doc.number ≡ top + 1 → top < greatest_number → HasShortSets d →
-    AreKept (documents ++ d ∷ []) d.doc.number
-AreKept-next documents top d kept number left short =
-    let Low : Document → Type 0 = λ e. e.doc.number ≤ d.doc.number in
-    record {
-      ordered = subst IsStrictlyIncreasing
-          (sym (map-append (λ (e : Document). e.doc.number) documents (d ∷ [])))
-          (IsStrictlyIncreasing-behind (numbers_of documents) top d.doc.number
-          (All-map (λ x. x ≤ top) (λ (e : Document). e.doc.number) documents kept.numbered)
-          (omega arith) kept.ordered);
-      numbered = All-append Low documents (d ∷ [])
-          (λ k e below. let low = kept.numbered k e below in omega (arith, low))
-          (All-cons Low d [] (omega arith) (λ k e below. absurd (omega arith)));
-      drawn = omega (arith, kept.drawn, length-append documents (d ∷ []));
-      range = omega arith;
-      short = All-append HasShortSets documents (d ∷ []) kept.short
-          (All-cons HasShortSets d [] short (λ k e below. absurd (omega arith)));
-    }
-
--- the desk with a document behind the others
-pub changed-behind : (desk : Desk) (document : Document) →
-    All (λ e. e.doc.number ≤ desk.serial.top) desk.serial.documents →
-    document.doc.number ≡ desk.serial.top + 1 →
-    record desk {
-      serial = record desk.serial
-          { documents = desk.serial.documents ++ document ∷ []; top = document.doc.number };
-    } ≡ changed
-    desk (Put document)
-changed-behind desk document numbered number =
-    let greater : document.doc.number ≡ max desk.serial.top document.doc.number = omega arith in
-    (λ i. record desk {
-      serial = record desk.serial {
-        documents = sym (with_document-behind document desk.serial.top desk.serial.documents
-            numbered number) i;
-        top = greater i;
-      };
-    })
-
--- ---- steps of a reader
-
--- what comes next for the value of a step
-IfOk-at : {F X Y : Type 0} (P : Y → Type 0) (first : Result X F) (next : X → Result Y F) →
-    ((x : X) → first ≡ Ok x → IfOk (next x) P) → IfOk (first >>= next) P
-IfOk-at {F} {X} P first next of_next = at first refl
-  where
-    at : (r : Result X F) → first ≡ r → IfOk (r >>= next) P
-    at (Ok x) is = of_next x is
-    at (Err fault) is = tt
-
--- what holds of each value holds of this one
-IfOk-elim : {F X : Type 0} (P : X → Type 0) (r : Result X F) (x : X) → IfOk r P → r ≡ Ok x → P x
-IfOk-elim P (Ok y) x h is = let same : y ≡ x = cc in subst P same h
-IfOk-elim P (Err fault) x h is = cc
-
-IfOk-or_stop : (P : Effect → Type 0) (tried : Result Effect Refusal) → IfOk tried P →
-    IfOk (or_stop tried) P
-IfOk-or_stop P (Ok effect) h = h
-IfOk-or_stop P (Err refusal) h = tt
-
-unless-passed : {F : Type 0} (b : Bool) (fault : F) → unless b fault ≡ Ok tt → b ≡ true
-unless-passed true fault h = refl
-unless-passed false fault h = cc
-
--- ---- documents are short
-
-length-with_lines : (line date : ℕ) (gs : List Given) → length (with_lines line date gs) ≡ length gs
-length-with_lines line date [] = refl
-length-with_lines line date (g ∷ gs) = ap suc (length-with_lines (line + 1) date gs)
-
-short-record_set : (date : ℕ) (given : List Given) →
-    IfOk (record_set date given) (λ set. length set ≤ 5_000)
-unfolding record_set
-short-record_set date given = at (nat_le (length (filter is_made given)) 5_000) refl
-  where
-    at : (b : Bool) → nat_le (length (filter is_made given)) 5_000 ≡ b →
-        IfOk (unless b (Rule TooManyRecords None) >>= λ _. Ok
-        (with_lines 1 date (filter is_made given))) (λ set. length set ≤ 5_000)
-    at true is = let few : length (filter is_made given) ≤ 5_000 =
-        grind (arith, nat_tests) in rw length-with_lines few
-    at false is = tt
-
-short-each : (date : ℕ) (given : List (List Given)) →
-    IfOk (each (record_set date) given) (λ sets. All (λ set. length set ≤ 5_000) sets)
-short-each date [] = λ k d below. absurd (omega arith)
-short-each date (g ∷ gs) =
-    let Short : List Rec → Type 0 = λ set. length set ≤ 5_000 in
-    IfOk-at (All Short) (record_set date g) (λ y. each (record_set date) gs >>= λ ys. Ok (y ∷ ys))
-    (λ y is. IfOk-at (All Short) (each (record_set date) gs) (λ ys. Ok (y ∷ ys))
-    (λ ys others. All-cons Short y ys
-    (IfOk-elim Short (record_set date g) y (short-record_set date g) is)
-    (IfOk-elim (All Short) (each (record_set date) gs) ys (short-each date gs) others)))
-
--- what is made of a plan is its document, with short sets
-record IsMadeFor (doc : Doc) (after : Option Document) : Type 0 where
-  document : Document
-  is : after ≡ Some document
-  doc_is : document.doc ≡ doc
-  short : HasShortSets document
-
-document_from-made : (setting : Setting) (state : State) (doc : Doc) (source : Source) →
-    IfOk (document_from setting state doc source) (IsMadeFor doc)
-unfolding record_sets
-document_from-made setting state doc (ByHand given) =
-    IfOk-at (IsMadeFor doc) (each (record_set doc.date) given >>= λ registers. Ok
-    (record { registers = registers; ledgers = map (λ _. []) setting.config.ledgers })) _
-    (λ sets is. record {
-      document = record { doc = doc; sets = sets };
-      is = refl;
-      doc_is = refl;
-      short = IfOk-elim Short (each (record_set doc.date) given >>= λ registers. Ok
-          (record { registers = registers; ledgers = map (λ _. []) setting.config.ledgers })) sets
-          (IfOk-at Short (each (record_set doc.date) given) _
-          (λ registers made. IfOk-elim (All (λ set. length set ≤ 5_000))
-          (each (record_set doc.date) given) registers (short-each doc.date given) made)) is;
-    })
-  where
-    Short : Sets → Type 0
-    Short sets = All (λ set. length set ≤ 5_000) sets.registers
-
--- ---- plans
-
-plan_manual-doc : (config : Config) (m : ManualRequest) (sight : Sight) →
-    IfOk (plan_manual config m sight) (λ plan. plan.doc ≡ manual_doc sight.drawn m.date)
-unfolding plan_manual
-plan_manual-doc config m sight = IfOk-at (λ (plan : Plan). plan.doc ≡ manual_doc sight.drawn m.date)
-    (given_sets config m.sets) _ (λ given is. refl)
-
--- a change that names no document
-abbrev new_change : Config → ManualRequest → Option ℕ → Change
-new_change config m doc = record { doc = doc; plan = plan_manual config m }
-
-abbrev pub new_sight : State → Sight
-new_sight state = record { before = None; drawn = next_number state }
-
--- what its plan comes to
-pub change_effect-planned : (tests : Tests) (setting : Setting) (state : State) (m : ManualRequest)
-    (plan : Plan) → m.doc ≡ None → plan_manual setting.config m (new_sight state) ≡ Ok plan →
-    change_effect tests setting state (cond (is_none m.doc) (next_number state) 0)
-    (new_change setting.config m m.doc) ≡ plan_effect tests setting state (next_number state)
-    (new_sight state) plan
-unfolding change_effect
-change_effect-planned tests setting state m plan no_doc planned =
-    let P : Option ℕ → Type 0 =
-    λ doc. change_effect tests setting state (cond (is_none doc) (next_number state) 0)
-    (new_change setting.config m doc) ≡ plan_effect tests setting state (next_number state)
-    (new_sight state) plan in
-    subst P (sym no_doc) (ap (λ (r : Result Plan Refusal). r >>= λ p. plan_effect tests setting
-    state (next_number state) (new_sight state) p) planned)
-
--- the refusal of its plan
-pub change_effect-refused : (tests : Tests) (setting : Setting) (state : State) (m : ManualRequest)
-    (refusal : Refusal) → m.doc ≡ None →
-    plan_manual setting.config m (new_sight state) ≡ Err refusal →
-    change_effect tests setting state (cond (is_none m.doc) (next_number state) 0)
-    (new_change setting.config m m.doc) ≡ Err refusal
-unfolding change_effect
-change_effect-refused tests setting state m refusal no_doc planned =
-    let P : Option ℕ → Type 0 =
-    λ doc. change_effect tests setting state (cond (is_none doc) (next_number state) 0)
-    (new_change setting.config m doc) ≡ Err refusal in
-    subst P (sym no_doc) (ap (λ (r : Result Plan Refusal). r >>= λ p. plan_effect tests setting
-    state (next_number state) (new_sight state) p) planned)
-
--- what it made has the number that was drawn
-pub plan_manual-number : (config : Config) (m : ManualRequest) (sight : Sight) (plan : Plan) →
-    plan_manual config m sight ≡ Ok plan → plan.doc.number ≡ sight.drawn
-plan_manual-number config m sight plan planned = ap (λ (d : Doc). d.number)
-    (IfOk-elim (λ (p : Plan). p.doc ≡ manual_doc sight.drawn m.date) (plan_manual config m sight)
-    plan (plan_manual-doc config m sight) planned)
-
--- ---- outcomes
-
--- how a document stands is what its plan is acknowledged with
-acknowledged-made : (doc : Doc) (source : Source) (document : Document) → document.doc ≡ doc →
-    acknowledgement_of doc source
-    ≡ Stands document.doc.active document.doc.number document.doc.state
-acknowledged-made doc (ByHand given) document is =
-    ap (λ (d : Doc). Stands d.active d.number d.state) (sym is)
-
--- the effect of a plan whose document was made is to put it
-pub Leaves-made : (desk : Desk) (plan : Plan) (document : Document) →
-    plan.doc.number ≡ next_number desk.serial → desk.serial.top < greatest_number →
-    document_from desk.setting desk.serial plan.doc plan.source ≡ Ok (Some document) →
-    Leaves desk (effect_with desk.serial (next_number desk.serial) plan
-    (record { before = None; after = Some document })) (Put document)
-    (Stands document.doc.active document.doc.number document.doc.state)
-Leaves-made desk plan document number left made =
-    let for = IfOk-elim (IsMadeFor plan.doc)
-    (document_from desk.setting desk.serial plan.doc plan.source) (Some document)
-    (document_from-made desk.setting desk.serial plan.doc plan.source) made in
-    let same : for.document ≡ document = inner for.document document for.is in
-    let doc_is : document.doc ≡ plan.doc = ap (λ (d : Document). d.doc) (sym same) ∙ for.doc_is in
-    let drawn : document.doc.number ≡ next_number desk.serial =
-    ap (λ (d : Doc). d.number) doc_is ∙ number in
-    let some : nat_lt desk.serial.top greatest_number ≡ true = grind (arith, nat_tests) in
-    let next : next_number desk.serial ≡ desk.serial.top + 1 =
-    ap (λ b. cond b (desk.serial.top + 1) 0) some in
-    record {
-      answer_is = ap Acknowledged (acknowledged-made plan.doc plan.source document doc_is);
-      state_is = ap (λ n. record desk {
-        serial = record desk.serial {
-          documents = with_document document desk.serial.documents;
-          top = max desk.serial.top n;
-        };
-      }) (sym drawn);
-      may = record {
-        number = drawn ∙ next;
-        left = left;
-        short = subst HasShortSets same for.short;
-      };
-    }
-  where
-    inner : (x y : Document) → Some y ≡ Some x → x ≡ y
-    inner x y e = cc
-
--- ---- steps
-
--- what is prepared of a request that is answered, or goes no further
-pub step-replies : (desk : Desk) (r : Request) (reply : Reply) (prepared : Prepared) →
-    Comes desk (effect_at desk r) (Replies reply) → prepared.reply ≡ reply →
-    prepared.text.items ≡ reply_text reply ++ 10 ∷ [] → prepared.entry ≡ None →
-    Prepares desk (step desk r) prepared
-unfolding step
-step-replies desk r reply prepared comes reply_is text_is none =
-    at (effect_at desk r) comes
-  where
-    kept : (clerk : List ℕ) (number : Option ℕ) (text : List ℕ) (answer : Answer)
-        (lasts : List Last) → IsAnswer answer → lasts_with clerk number text answer lasts ≡ lasts
-    kept clerk None text answer lasts is = refl
-    kept clerk (Some n) text (Acknowledged a) lasts is = absurd is
-    kept clerk (Some n) text (Balance rows scales) lasts is = refl
-    kept clerk (Some n) text (Shown document) lasts is = refl
-
-    made : (event : Event) → event.reply ≡ reply → event.desk ≡ desk →
-        Prepares desk event prepared
-    made event replied stays = record {
-      reply_is = replied ∙ sym reply_is;
-      text_is = text_is ∙ ap (λ (x : Reply). reply_text x ++ 10 ∷ []) (sym replied);
-      desk_is = stays ∙ ap (desk_with desk) (sym none);
-      may = subst (λ (e : Option Entry). ForSome e (λ x. MayChange desk x.change)) (sym none)
-          (λ x e. cc);
-    }
-
-    at : (effect : Result Effect Stop) → Comes desk effect (Replies reply) →
-        Prepares desk (event_of desk (meaning_at desk r) (command_at desk r) effect) prepared
-    at (Ok effect) answers =
-        made (event_of desk (meaning_at desk r) (command_at desk r) (Ok effect)) answers.reply_is
-        (ap (λ (s : State). record desk {
-          serial = record s {
-            lasts = lasts_with (meaning_at desk r).clerk (meaning_at desk r).number (request_text r)
-                effect.answer s.lasts;
-          };
-        }) answers.state_is
-        ∙ ap (λ (ls : List Last). record desk { serial = record desk.serial { lasts = ls } })
-        (kept (meaning_at desk r).clerk (meaning_at desk r).number (request_text r) effect.answer
-        desk.serial.lasts answers.answer))
-    at (Err stop) replied =
-        made (event_of desk (meaning_at desk r) (command_at desk r) (Err stop)) replied refl
-
--- what is prepared of a change
-pub step-changes : (desk : Desk) (r : Request) (change : CoreChange)
-    (acknowledgement : Acknowledgement) (prepared : Prepared) →
-    Comes desk (effect_at desk r) (Changes change acknowledgement) →
-    prepared.reply ≡ Done (Acknowledged acknowledgement) →
-    prepared.text.items ≡ reply_text prepared.reply ++ 10 ∷ [] →
-    prepared.entry ≡ Some (record {
-      change = change;
-      last = last_with (meaning_at desk r).clerk (meaning_at desk r).number (request_text r)
-          acknowledgement;
-    }) → Prepares desk (step desk r) prepared
-unfolding step
-step-changes desk r change acknowledgement prepared comes reply_is text_is entry_is =
-    at (effect_at desk r) comes
-  where
-    clerk : List ℕ
-    clerk = (meaning_at desk r).clerk
-
-    number : Option ℕ
-    number = (meaning_at desk r).number
-
-    last : Option Last
-    last = last_with clerk number (request_text r) acknowledgement
-
-    kept : (n : Option ℕ) (lasts : List Last) →
-        lasts_with clerk n (request_text r) (Acknowledged acknowledgement) lasts
-        ≡ lasts_and (last_with clerk n (request_text r) acknowledgement) lasts
-    kept None lasts = refl
-    kept (Some n) lasts = refl
-
-    lasts_same : (c : CoreChange) → (changed desk c).serial.lasts ≡ desk.serial.lasts
-    lasts_same (Put document) = refl
-
-    at : (effect : Result Effect Stop) → Comes desk effect (Changes change acknowledgement) →
-        Prepares desk (event_of desk (meaning_at desk r) (command_at desk r) effect) prepared
-    at (Err stop) nothing = absurd nothing
-    at (Ok effect) leaves =
-        let replied : Done effect.answer ≡ prepared.reply = ap Done leaves.answer_is
-        ∙ sym reply_is in
-        let state : effect.state ≡ (changed desk change).serial =
-        ap (λ (d : Desk). d.serial) leaves.state_is in
-        let setting : desk.setting ≡ (changed desk change).setting =
-        ap (λ (d : Desk). d.setting) leaves.state_is in
+    at : (doc : Option ℕ) → sight ≡ sight_at state doc seen.key → IsThere state sight b
+    at None same = let none : sight.before ≡ None = ap (λ (s : Sight). s.before) same in cc
+    at (Some n) same =
+        let found : document_at n state.documents ≡ Some b =
+        sym (ap (λ (s : Sight). s.before) same) ∙ is in
         record {
-          reply_is = replied;
-          text_is = text_is ∙ ap (λ (x : Reply). reply_text x ++ 10 ∷ []) (sym replied);
-          desk_is =
-              (λ i. record {
-                setting = setting i;
-                serial = record (state i) {
-                  lasts = lasts_with clerk number (request_text r) (leaves.answer_is i)
-                      (state i).lasts;
-                };
-              })
-              ∙ ap (λ (ls : List Last). record (changed desk change) {
-                serial = record (changed desk change).serial {
-                  lasts = lasts_with clerk number (request_text r) (Acknowledged acknowledgement)
-                      ls;
-                };
-              }) (lasts_same change)
-              ∙ ap (λ (ls : List Last). record (changed desk change) {
-                serial = record (changed desk change).serial { lasts = ls };
-              }) (kept number desk.serial.lasts)
-              ∙ ap (desk_with desk) (sym entry_is);
-          may = subst (λ (e : Option Entry). ForSome e (λ x. MayChange desk x.change))
-              (sym entry_is) (λ x e. subst (λ (c : CoreChange). MayChange desk c)
-              (inner change x e) leaves.may);
+          at_number = subst (λ k. document_at k state.documents ≡ Some b)
+              (sym (number-at n state.documents b found)) found;
+          undrawn = ap (λ (s : Sight). s.drawn) same;
         }
-      where
-        inner : (c : CoreChange) (x : Entry) →
-            Some (record { change = c; last = last }) ≡ Some x → c ≡ x.change
-        inner c x e = cc
 
--- ---- what a plan comes to
+-- the document that is seen has short lists, as all have
+pub seen-short : (state : State) (sight : Sight) (top records : ℕ) →
+    AreKept state.documents top records → IsSightOf state sight → (b : Document) →
+    sight.before ≡ Some b → HasShortLists b
+seen-short state sight top records kept seen b is = All-at HasShortLists b.doc.number
+    state.documents b kept.short (seen-there state sight seen b is).at_number
 
-pub plan-comes : (desk : Desk) (meaning : Meaning) (text : List ℕ) (plan : Plan)
-    (document : Document) → meaning.draws ≡ true → plan.doc.number ≡ next_number desk.serial →
-    desk.serial.top < greatest_number →
-    document_from desk.setting desk.serial plan.doc plan.source ≡ Ok (Some document) →
-    Comes desk (or_stop (plan_effect (tests_of desk meaning text) desk.setting desk.serial
-    (next_number desk.serial) (new_sight desk.serial) plan)) (Changes (Put document)
-    (Stands document.doc.active document.doc.number document.doc.state))
-unfolding plan_effect
-plan-comes desk meaning text plan document draws number left made =
-    subst (λ (r : Result Effect Refusal). Comes desk (or_stop r) (Changes (Put document)
-    (Stands document.doc.active document.doc.number document.doc.state))) (sym is)
-    (Leaves-made desk plan document number left made)
+-- ---- limits that are not passed
+
+then-passed : (first : Result (Unit {0}) Refusal) (rest : Result (Unit {0}) Refusal) →
+    (first >>= λ _. rest) ≡ Ok tt → (first ≡ Ok tt) × (rest ≡ Ok tt)
+then-passed (Ok u) rest h = (refl, h)
+then-passed (Err refusal) rest h = cc
+
+within-passed : (which : LimitOf) (count most : ℕ) → within_limit which count most ≡ Ok tt →
+    count ≤ most
+within-passed which count most h = at (nat_le count most) refl h
   where
-    behind : Result (Option Document) Refusal → Result Effect Refusal
-    behind r = r >>= λ after. Ok (effect_with desk.serial (next_number desk.serial) plan
-        (record { before = None; after = after }))
+    at : (b : Bool) → nat_le count most ≡ b → unless b (Limit which most) ≡ Ok tt → count ≤ most
+    at true is e = grind (arith, nat_tests)
+    at false is e = cc
 
-    some : nat_lt desk.serial.top greatest_number ≡ true
-    some = grind (arith, nat_tests)
+-- neither too many documents nor too many records
+record PassesNone (state : State) (sight : Sight) (document : Document) : Type 0 where
+  documents : documents_with_plan state sight ≤ most_documents
+  records : records_with state sight (Some document) ≤ most_kept_records
 
-    is : (unless (number_is_left desk.serial meaning.draws) (Limit Numbers greatest_number) >>=
-        λ _. behind (document_from desk.setting desk.serial plan.doc plan.source))
-        ≡ Ok (effect_with desk.serial (next_number desk.serial) plan
-        (record { before = None; after = Some document }))
-    is =
-        ap (λ b. unless (number_is_left desk.serial b) (Limit Numbers greatest_number) >>=
-        λ _. behind (document_from desk.setting desk.serial plan.doc plan.source)) draws
-        ∙ ap (λ b. unless b (Limit Numbers greatest_number) >>=
-        λ _. behind (document_from desk.setting desk.serial plan.doc plan.source)) some
-        ∙ ap behind made
+limits-none : (state : State) (sight : Sight) (plan : Plan) (document : Document) →
+    limits_of state sight plan (Ok (Some document)) ≡ Ok tt → PassesNone state sight document
+unfolding limits_of
+limits-none state sight plan document h =
+    let first = then-passed (within_limit Documents (documents_with_plan state sight)
+    most_documents) _ h in
+    let second = then-passed (records_limit state sight (Ok (Some document))) _ first.1 in
+    record {
+      documents = within-passed Documents _ _ first.0;
+      records = within-passed Records _ _ second.0;
+    }
 
--- ---- what is prepared
+-- ---- a document that is put
 
--- what three facts of a value have together
-pub IfOk-three : {F X : Type 0} (P Q R S : X → Type 0) (r : Result X F) → IfOk r P → IfOk r Q →
-    IfOk r R → ((x : X) → P x → Q x → R x → S x) → IfOk r S
-IfOk-three P Q R S (Ok x) p q t all = all x p q t
-IfOk-three P Q R S (Err fault) p q t all = tt
+module _ (desk : Desk) (sight : Sight) (plan : Plan) (document : Document)
+    (seen : IsSightOf desk.serial sight) (suits : Suits sight plan)
+    (own : plan.doc ≡ document.doc) where
+  number : document.doc.number ≡ number_with sight
+  number = ap (λ (d : Doc). d.number) (sym own) ∙ suits.number
 
--- a reply that is given is that of the step
-pub step-reply : (desk : Desk) (r : Request) (reply : Reply) →
-    Comes desk (effect_at desk r) (Replies reply) → (step desk r).reply ≡ reply
-unfolding step
-step-reply desk r reply comes = at (effect_at desk r) comes
-  where
-    at : (effect : Result Effect Stop) → Comes desk effect (Replies reply) →
-        (event_of desk (meaning_at desk r) (command_at desk r) effect).reply ≡ reply
-    at (Ok effect) answers = answers.reply_is
-    at (Err stop) replied = replied
+  -- one more at the most
+  few : (before : Option Document) → sight.before ≡ before →
+      length desk.serial.documents + cond (is_none before) 1 0 ≤ most_documents →
+      length (with_document document desk.serial.documents) ≤ most_documents
+  few None is h =
+      omega (
+        arith,
+        h,
+        length-with document desk.serial.documents,
+        one (is_none (document_at document.doc.number desk.serial.documents)),
+      )
+    where
+      one : (b : Bool) → cond b 1 0 ≤ 1
+      one true = omega arith
+      one false = omega arith
+  few (Some b) is h =
+      let there = seen-there desk.serial sight seen b is in
+      let same : document.doc.number ≡ b.doc.number = number
+      ∙ (λ i. number_with (record sight { before = is i })) in
+      let found : document_at document.doc.number desk.serial.documents ≡ Some b =
+      ap (λ n. document_at n desk.serial.documents) same ∙ there.at_number in
+      let count : length (with_document document desk.serial.documents)
+      ≡ length desk.serial.documents + 0 = length-with document desk.serial.documents
+      ∙ ap (λ (o : Option Document). length desk.serial.documents + cond (is_none o) 1 0) found in
+      omega (arith, h, count)
+
+  within : (before : Option Document) → sight.before ≡ before →
+      records_in desk.serial.documents + (record_count document - records_before before)
+      ≤ most_kept_records →
+      records_in (with_document document desk.serial.documents) ≤ most_kept_records
+  within None is h = omega (arith, h, records-with document desk.serial.documents)
+  within (Some b) is h =
+      let there = seen-there desk.serial sight seen b is in
+      let same : document.doc.number ≡ b.doc.number = number
+      ∙ (λ i. number_with (record sight { before = is i })) in
+      let found : document_at document.doc.number desk.serial.documents ≡ Some b =
+      ap (λ n. document_at n desk.serial.documents) same ∙ there.at_number in
+      let count : records_in (with_document document desk.serial.documents) + record_count b
+      ≡ records_in desk.serial.documents + record_count document =
+      subst (λ (o : Option Document). records_in (with_document document desk.serial.documents)
+      + records_before o ≡ records_in desk.serial.documents + record_count document) found
+      (records-with document desk.serial.documents) in
+      omega (arith, h, count)
+
+  fits : HasShortLists document → PassesNone desk.serial sight document → Fits desk document
+  fits short none = record {
+    short = short;
+    few = few sight.before refl none.documents;
+    within = within sight.before refl none.records;
+  }
+
+  acknowledged : (source : Source) → IsPut source → acknowledgement_of plan.doc source
+      ≡ Stands document.doc.active document.doc.number document.doc.state
+  acknowledged (ByHand given) put =
+      ap (λ (d : Doc). Stands d.active d.number d.state) own
+  acknowledged Kept put = ap (λ (d : Doc). Stands d.active d.number d.state) own
+  acknowledged Nothing put = ap (λ (d : Doc). Stands d.active d.number d.state) own
+  acknowledged Removed put = absurd put
+
+  -- the greatest number is raised by the drawn one alone
+  raised : (top records : ℕ) → AreKept desk.serial.documents top records →
+      (before : Option Document) → sight.before ≡ before → max top sight.drawn
+      ≡ max top document.doc.number
+  raised top records kept None is =
+      let drawn : document.doc.number ≡ sight.drawn = number
+      ∙ (λ i. number_with (record sight { before = is i })) in ap (max top) (sym drawn)
+  raised top records kept (Some b) is =
+      let there = seen-there desk.serial sight seen b is in
+      let same : document.doc.number ≡ b.doc.number = number
+      ∙ (λ i. number_with (record sight { before = is i })) in
+      let low : b.doc.number ≤ top = All-at (λ d. d.doc.number ≤ top) b.doc.number
+      desk.serial.documents b kept.numbered there.at_number in
+      omega (arith, low, same, there.undrawn)
+
+  put-leaves : (records : ℕ) → AreKept desk.serial.documents desk.serial.top records →
+      HasShortLists document → IsPut plan.source → PassesNone desk.serial sight document →
+      Leaves desk (effect_with desk.serial sight.drawn plan
+      (record { before = sight.before; after = Some document })) (Put document)
+      (Stands document.doc.active document.doc.number document.doc.state)
+  put-leaves records kept short put none = record {
+    answer_is = ap Acknowledged (acknowledged plan.source put);
+    state_is = ap (λ n. record desk {
+      serial = record desk.serial {
+        documents = with_document document desk.serial.documents;
+        top = n;
+      };
+    }) (raised desk.serial.top records kept sight.before refl);
+    may = fits short none;
+  }
+
+  pub put-comes : (records : ℕ) → AreKept desk.serial.documents desk.serial.top records →
+      HasShortLists document → IsPut plan.source →
+      limits_of desk.serial sight plan (Ok (Some document)) ≡ Ok tt →
+      Comes desk (or_stop (made_effect desk sight plan (Ok (Some document))))
+      (Changes (Put document)
+      (Stands document.doc.active document.doc.number document.doc.state))
+  put-comes records kept short put passed =
+      subst (λ (r : Result (Unit {0}) Refusal). Comes desk (or_stop (r >>= λ _. Ok
+      (effect_with desk.serial sight.drawn plan
+      (record { before = sight.before; after = Some document }))))
+      (Changes (Put document)
+      (Stands document.doc.active document.doc.number document.doc.state))) (sym passed)
+      (put-leaves records kept short put
+      (limits-none desk.serial sight plan document passed))
+
+-- ---- a document that is removed
+
+module _ (desk : Desk) (sight : Sight) (plan : Plan) (seen : IsSightOf desk.serial sight)
+    (suits : Suits sight plan) (removed : plan.source ≡ Removed) where
+  remove-leaves : (before : Option Document) → sight.before ≡ before → IsSome before →
+      Leaves desk (effect_with desk.serial sight.drawn plan
+      (record { before = sight.before; after = None })) (Remove plan.doc.number)
+      (Swept plan.doc.number)
+  remove-leaves None is some = cc
+  remove-leaves (Some b) is some =
+      let there = seen-there desk.serial sight seen b is in
+      let same : plan.doc.number ≡ b.doc.number = suits.number
+      ∙ (λ i. number_with (record sight { before = is i })) in
+      let top : max desk.serial.top sight.drawn ≡ desk.serial.top =
+      omega (arith, there.undrawn) in
+      record {
+        answer_is = ap (λ (s : Source). Acknowledged (acknowledgement_of plan.doc s)) removed;
+        state_is = (λ i. record desk {
+          serial = record desk.serial {
+            documents = documents_with (is i) None desk.serial.documents;
+            top = top i;
+          };
+        })
+            ∙ ap (λ n. record desk {
+              serial = record desk.serial { documents = without_document n desk.serial.documents };
+            }) (sym same);
+        may = tt;
+      }
+
+  pub remove-comes : limits_of desk.serial sight plan (Ok None) ≡ Ok tt →
+      Comes desk (or_stop (made_effect desk sight plan (Ok None)))
+      (Changes (Remove plan.doc.number) (Swept plan.doc.number))
+  remove-comes passed =
+      subst (λ (r : Result (Unit {0}) Refusal). Comes desk (or_stop (r >>= λ _. Ok
+      (effect_with desk.serial sight.drawn plan
+      (record { before = sight.before; after = None }))))
+      (Changes (Remove plan.doc.number) (Swept plan.doc.number))) (sym passed)
+      (remove-leaves sight.before refl
+      (subst (RemovesOne sight.before) removed suits.removes))

@@ -5,12 +5,12 @@ use Rattle.std.proofs.Common.{drop-cons, append-nil, append_assoc}
 use Rattle.std.proofs.lemmas.List.{drop_all, map_more}
 use Rattle.reg_base.specs.Results.{◌>>=◌}
 use Rattle.desk_words.specs.declared.reply.Refusal.{Refusal}
-use Rattle.std.specs.Prelude.{slice_set}
 use Rattle.cfg_model.specs.declared.config.Config.{Config}
 use Rattle.desk_words.specs.declared.request.SetText.{SetText}
-use Rattle.desk_model.specs.declared.plan.Given.{Given}
+use Rattle.desk_model.specs.declared.plan.GivenSet.{GivenSet}
+use Rattle.desk_model.specs.declared.plan.Space.{Space}
 use Rattle.reg_base.specs.Results.{each}
-use Rattle.desk_model.specs.Manuals.{set_records, with_sets}
+use Rattle.desk_model.specs.Manuals.{given_set, sets_in}
 
 -- what was read, and then what is left to be read
 abbrev pub following : {X : Type 0} → List X → Result (List X) Refusal → Result (List X) Refusal
@@ -20,6 +20,32 @@ following-one : {X : Type 0} (front : List X) (x : X) (rest : Result (List X) Re
     following front (Ok x >>= λ y. rest >>= λ ys. Ok (y ∷ ys)) ≡ following (front ++ x ∷ []) rest
 following-one front x (Ok xs) = ap Ok (sym (append_assoc front (x ∷ []) xs))
 following-one front x (Err refusal) = refl
+
+-- what is read of the first element, and then of the others
+abbrev pub step_of : {X : Type 0} → Result X Refusal → Result (List X) Refusal →
+    Result (List X) Refusal
+step_of first rest = first >>= λ y. rest >>= λ ys. Ok (y ∷ ys)
+
+-- the first of what is ahead is read
+pub following-read : {X : Type 0} (ahead rest : Result (List X) Refusal) (first : Result X Refusal)
+    (front new : List X) (y : X) (all : Result (List X) Refusal) → ahead ≡ step_of first rest →
+    Ok y ≡ first → new ≡ front ++ y ∷ [] → following front ahead ≡ all → following new rest ≡ all
+following-read ahead rest first front new y all is read_is pushed so_far =
+    ap (λ f. following f rest) pushed
+    ∙ sym (following-one front y rest)
+    ∙ ap (λ r. following front (step_of r rest)) read_is
+    ∙ ap (following front) (sym is)
+    ∙ so_far
+
+-- the first of what is ahead is refused
+pub following-stops : {X : Type 0} (ahead rest : Result (List X) Refusal)
+    (first : Result X Refusal) (front : List X) (refusal : Refusal)
+    (all : Result (List X) Refusal) → ahead ≡ step_of first rest → Err refusal ≡ first →
+    following front ahead ≡ all → Err refusal ≡ all
+following-stops ahead rest first front refusal all is read_is so_far =
+    ap (λ r. following front (step_of r rest)) read_is
+    ∙ ap (following front) (sym is)
+    ∙ so_far
 
 -- the elements from a place on are the one there and those behind it
 pub drop_at : {A : Type 0} (xs : List A) (i : ℕ) (x : A) → i < length xs → x ≡ get_or xs i x →
@@ -32,25 +58,17 @@ pub following-next : {A X : Type 0} (read : A → Result X Refusal) (ahead rest 
     (front new : List X) (y : X) (all : Result (List X) Refusal) → ahead ≡ x ∷ rest →
     Ok y ≡ read x → new ≡ front ++ y ∷ [] → following front (each read ahead) ≡ all →
     following new (each read rest) ≡ all
-following-next {A} {X} read ahead rest x front new y all first read_is pushed so_far =
-    let step : Result X Refusal → Result (List X) Refusal =
-    λ r. r >>= λ z. each read rest >>= λ zs. Ok (z ∷ zs) in
-    ap (λ f. following f (each read rest)) pushed
-    ∙ sym (following-one front y (each read rest))
-    ∙ ap (λ r. following front (step r)) read_is
-    ∙ ap (λ ds. following front (each read ds)) (sym first)
-    ∙ so_far
+following-next read ahead rest x front new y all first read_is pushed so_far =
+    following-read (each read ahead) (each read rest) (read x) front new y all
+    (ap (each read) first) read_is pushed so_far
 
 -- an element that is refused refuses all
 pub following-refused : {A X : Type 0} (read : A → Result X Refusal) (ahead rest : List A) (x : A)
     (front : List X) (refusal : Refusal) (all : Result (List X) Refusal) → ahead ≡ x ∷ rest →
     Err refusal ≡ read x → following front (each read ahead) ≡ all → Err refusal ≡ all
-following-refused {A} {X} read ahead rest x front refusal all first read_is so_far =
-    let step : Result X Refusal → Result (List X) Refusal =
-    λ r. r >>= λ z. each read rest >>= λ zs. Ok (z ∷ zs) in
-    ap (λ r. following front (step r)) read_is
-    ∙ ap (λ ds. following front (each read ds)) (sym first)
-    ∙ so_far
+following-refused read ahead rest x front refusal all first read_is so_far =
+    following-stops (each read ahead) (each read rest) (read x) front refusal all
+    (ap (each read) first) read_is so_far
 
 -- no element is left
 pub following-done : {A X : Type 0} (read : A → Result X Refusal) (xs : List A) (i : ℕ)
@@ -70,45 +88,42 @@ taken-more f front new xs i x below is pushed so_far =
     ∙ ap (λ y. map f (take i xs) ++ f y ∷ []) is
     ∙ sym (map_more f xs i x below)
 
--- one more set is read and put at its place
-pub with_sets-next : (config : Config) (lists : List (List Given))
-    (places_ahead places_rest : List ℕ) (ahead rest : List SetText) (place : ℕ) (set : SetText)
-    (records : List Given) (all : Result (List (List Given)) Refusal) →
-    places_ahead ≡ place ∷ places_rest → ahead ≡ set ∷ rest →
-    Ok records ≡ set_records config place set → with_sets config lists places_ahead ahead ≡ all →
-    with_sets config (slice_set lists place records) places_rest rest ≡ all
-with_sets-next config lists places_ahead places_rest ahead rest place set records all first_place
-    first read_is so_far =
-    let step : Result (List Given) Refusal → Result (List (List Given)) Refusal =
-    λ r. r >>= λ g. with_sets config (slice_set lists place g) places_rest rest in
-    ap step read_is
-    ∙ ap (with_sets config lists (place ∷ places_rest)) (sym first)
-    ∙ ap (λ ps. with_sets config lists ps ahead) (sym first_place)
-    ∙ so_far
+-- one more set is read
+pub sets_in-next : (config : Config) (spaces_ahead spaces_rest : List Space)
+    (ahead rest : List SetText) (space : Space) (set : SetText) (front new : List GivenSet)
+    (given : GivenSet) (all : Result (List GivenSet) Refusal) →
+    spaces_ahead ≡ space ∷ spaces_rest → ahead ≡ set ∷ rest →
+    Ok given ≡ given_set config space set → new ≡ front ++ given ∷ [] →
+    following front (sets_in config spaces_ahead ahead) ≡ all →
+    following new (sets_in config spaces_rest rest) ≡ all
+sets_in-next config spaces_ahead spaces_rest ahead rest space set front new given all first_space
+    first read_is pushed so_far =
+    following-read (sets_in config spaces_ahead ahead) (sets_in config spaces_rest rest)
+    (given_set config space set) front new given all
+    (λ j. sets_in config (first_space j) (first j)) read_is pushed so_far
 
 -- a set that is refused refuses all
-pub with_sets-refused : (config : Config) (lists : List (List Given))
-    (places_ahead places_rest : List ℕ) (ahead rest : List SetText) (place : ℕ) (set : SetText)
-    (refusal : Refusal) (all : Result (List (List Given)) Refusal) →
-    places_ahead ≡ place ∷ places_rest → ahead ≡ set ∷ rest →
-    Err refusal ≡ set_records config place set → with_sets config lists places_ahead ahead ≡ all →
-    Err refusal ≡ all
-with_sets-refused config lists places_ahead places_rest ahead rest place set refusal all first_place
+pub sets_in-refused : (config : Config) (spaces_ahead spaces_rest : List Space)
+    (ahead rest : List SetText) (space : Space) (set : SetText) (front : List GivenSet)
+    (refusal : Refusal) (all : Result (List GivenSet) Refusal) →
+    spaces_ahead ≡ space ∷ spaces_rest → ahead ≡ set ∷ rest →
+    Err refusal ≡ given_set config space set →
+    following front (sets_in config spaces_ahead ahead) ≡ all → Err refusal ≡ all
+sets_in-refused config spaces_ahead spaces_rest ahead rest space set front refusal all first_space
     first read_is so_far =
-    let step : Result (List Given) Refusal → Result (List (List Given)) Refusal =
-    λ r. r >>= λ g. with_sets config (slice_set lists place g) places_rest rest in
-    ap step read_is
-    ∙ ap (with_sets config lists (place ∷ places_rest)) (sym first)
-    ∙ ap (λ ps. with_sets config lists ps ahead) (sym first_place)
-    ∙ so_far
+    following-stops (sets_in config spaces_ahead ahead) (sets_in config spaces_rest rest)
+    (given_set config space set) front refusal all
+    (λ j. sets_in config (first_space j) (first j)) read_is so_far
 
 -- no set is left
-pub with_sets-done : (config : Config) (lists : List (List Given)) (places : List ℕ)
-    (sets : List SetText) (i : ℕ) (all : Result (List (List Given)) Refusal) → length sets ≤ i →
-    length places ≡ length sets → with_sets config lists (drop i places) (drop i sets) ≡ all →
-    Ok lists ≡ all
-with_sets-done config lists places sets i all spent many so_far =
-    ap (λ ps. with_sets config lists ps (drop i sets)) (sym (drop_all i places (omega arith)))
+pub sets_in-done : (config : Config) (spaces : List Space) (sets : List SetText) (i : ℕ)
+    (front : List GivenSet) (all : Result (List GivenSet) Refusal) → length sets ≤ i →
+    length spaces ≡ length sets → following front (sets_in config (drop i spaces) (drop i sets))
+    ≡ all → Ok front ≡ all
+sets_in-done config spaces sets i front all spent many so_far =
+    ap Ok (sym (append-nil front))
+    ∙ ap (λ ss. following front (sets_in config ss (drop i sets)))
+    (sym (drop_all i spaces (omega (arith, spent, many))))
     ∙ so_far
 
 -- as many are read as there are

@@ -5,13 +5,14 @@ use Rattle.std.proofs.Common.{take, get_or, length-append, append_assoc}
 use Rattle.std.specs.Prelude.{slice_get, unwrap_or}
 use Rattle.std.specs.List.{All, filter, flat_map}
 use Rattle.std.proofs.lemmas.List.{append-nil, map-append, length-map, length-take, take_more}
+use Rattle.std.proofs.lemmas.List.{flat_map_more}
 use Rattle.std.proofs.lemmas.List.Elements.{filter-append, All-take}
 use Rattle.std.proofs.lemmas.List.Sums.{length-filter, count_by-le-length}
 use Rattle.reg_base.specs.declared.records.Rec.{Rec}
 use Rattle.reg_base.specs.declared.records.SumRow.{SumRow}
 use Rattle.reg_base.specs.declared.records.Document.{Document}
 use Rattle.reg_base.specs.Records.{Booked, is_posted, booked_by}
-use Rattle.desk_core.specs.Invariants.{HasShortSets}
+use Rattle.desk_core.specs.Invariants.{HasShortLists}
 use Rattle.desk_core.specs.Rows.{booked, AddsUp}
 
 module _ (p : Booked → Bool) (f : Rec → Booked) (set : List Rec) where
@@ -66,7 +67,7 @@ sets-short [] i h = omega arith
 sets-short (s ∷ ss) zero h = h 0 s (omega arith)
 sets-short (s ∷ ss) (suc i) h = sets-short ss i (λ k d l. h (suc k) d (omega arith))
 
-booked-short : (register : ℕ) (d : Document) → HasShortSets d →
+booked-short : (register : ℕ) (d : Document) → HasShortLists d →
     length (booked_by register d) ≤ 5_000
 booked-short register d h = at (is_posted d.doc.state && d.doc.active)
   where
@@ -76,11 +77,11 @@ booked-short register d h = at (is_posted d.doc.state && d.doc.active)
       arith,
       length-map (unwrap_or (slice_get d.sets.registers register) [])
           (booked d.doc.number),
-      sets-short d.sets.registers register h,
+      sets-short d.sets.registers register h.records,
     )
     at false = omega arith
 
-flat-short : (register : ℕ) (ds : List Document) → All HasShortSets ds →
+flat-short : (register : ℕ) (ds : List Document) → All HasShortLists ds →
     length (flat_map (booked_by register) ds) ≤ 5_000 * length ds
 flat-short register [] h = omega arith
 flat-short register (d ∷ ds) h =
@@ -93,9 +94,19 @@ flat-short register (d ∷ ds) h =
       flat-short register ds (λ k x l. h (suc k) x (omega arith)),
     )
 
+-- the records of the documents so far that pass a test, and those of one document more
+pub documents-more : (p : Booked → Bool) (f : Document → List Booked) (ds : List Document)
+    (i : ℕ) (d : Document) → (i < length ds) × (d ≡ get_or ds i d) →
+    filter p (flat_map f (take i ds)) ++ filter p (f d) ≡ filter p (flat_map f (take (i + 1) ds))
+documents-more p f ds i d h =
+    sym (filter-append p (flat_map f (take i ds)) (f d))
+    ∙ ap (filter p) (flat_map_more f [] (take i ds) d)
+    ∙ ap (λ xs. filter p (flat_map f xs)) (ap (λ x. take i ds ++ x ∷ []) h.1
+    ∙ sym (take_more ds i d h.0))
+
 -- documents have few records
 pub documents-few : (p : Booked → Bool) (register : ℕ) (ds : List Document) (i : ℕ) →
-    All HasShortSets ds → length ds < 2 ^ 32 →
+    All HasShortLists ds → length ds < 2 ^ 32 →
     length (filter p (flat_map (booked_by register) (take i ds))) < 2 ^ 45
 documents-few p register ds i h few =
     omega (
@@ -104,6 +115,6 @@ documents-few p register ds i h few =
       count_by-le-length p
           (flat_map (booked_by register) (take i ds)),
       flat-short register (take i ds)
-          (All-take HasShortSets i ds h),
+          (All-take HasShortLists i ds h),
       length-take i ds,
     )

@@ -1,22 +1,22 @@
 -- What contracts see of a desk, and what a step leaves of it.
-use Rattle.std.specs.Prelude.{◌≡◌, ℕ, ◌+◌, ◌<◌, max, Option, Some, None, List}
+use Rattle.std.specs.Prelude.{◌≡◌, ⊤, ℕ, ◌≤◌, max, Option, Some, None, List, length}
 use Rattle.reg_base.specs.declared.records.Document.{Document}
-use Rattle.reg_base.specs.Documents.{with_document}
+use Rattle.reg_base.specs.Documents.{with_document, without_document}
 use Rattle.desk_words.specs.declared.request.Request.{Request}
 use Rattle.desk_words.specs.declared.reply.Reply.{Reply}
 use Rattle.desk_model.specs.declared.last.Last.{Last}
 use Rattle.desk_model.specs.State.{Desk}
 use Rattle.desk_model.specs.LastRequests.{with_last}
-use Rattle.desk_model.specs.Desk.{step, greatest_number}
+use Rattle.desk_model.specs.Limits.{records_in, most_documents, most_kept_records}
+use Rattle.desk_model.specs.Desk.{step}
 use Rattle.desk_core.specs.declared.outcome.Change.{Change}
-use Rattle.desk_core.specs.declared.outcome.Change.TheVariants.{Put}
+use Rattle.desk_core.specs.declared.outcome.Change.TheVariants.{Put, Remove, Close}
 use Rattle.desk_core.specs.declared.outcome.Entry.{Entry}
-use Rattle.desk_core.specs.Invariants.{HasShortSets}
+use Rattle.desk_core.specs.Invariants.{HasShortLists}
 
--- the desk of the machine, and for how many further documents and last requests there is room
+-- the desk of the machine, and for how many further last requests there is room
 pub record DeskView : Type 0 where
   pub desk : Desk
-  pub spare : ℕ
   pub spare_lasts : ℕ
 
 -- a step gives the reply of the machine, and leaves its desk
@@ -32,27 +32,35 @@ changed desk (Put document) = record desk {
     top = max desk.serial.top document.doc.number;
   };
 }
+changed desk (Remove number) = record desk {
+  serial = record desk.serial { documents = without_document number desk.serial.documents };
+}
+changed desk (Close date) = record desk { serial = record desk.serial { closed = date } }
 
 -- the last requests with one more in its place, where there is one
 abbrev pub lasts_and : Option Last → List Last → List Last
 lasts_and None lasts = lasts
 lasts_and (Some last) lasts = with_last last lasts
 
+-- the desk with a request as its clerk's last, where there is one
+abbrev pub with_lasts : Desk → Option Last → Desk
+with_lasts desk last = record desk {
+  serial = record desk.serial { lasts = lasts_and last desk.serial.lasts };
+}
+
 -- the desk with an entry committed, where there is one
 abbrev pub desk_with : Desk → Option Entry → Desk
 desk_with desk None = desk
-desk_with desk (Some entry) = record (changed desk entry.change) {
-  serial = record (changed desk entry.change).serial {
-    lasts = lasts_and entry.last desk.serial.lasts;
-  };
-}
+desk_with desk (Some entry) = with_lasts (changed desk entry.change) entry.last
 
--- a document that may be put: it has the next number, which is left, and its sets are short
-pub record IsNext (desk : Desk) (document : Document) : Type 0 where
-  pub number : document.doc.number ≡ desk.serial.top + 1
-  pub left : desk.serial.top < greatest_number
-  pub short : HasShortSets document
+-- a document that may be put: its lists are short, and no limit is passed with it
+pub record Fits (desk : Desk) (document : Document) : Type 0 where
+  pub short : HasShortLists document
+  pub few : length (with_document document desk.serial.documents) ≤ most_documents
+  pub within : records_in (with_document document desk.serial.documents) ≤ most_kept_records
 
 -- a change that a desk may make
 abbrev pub MayChange : Desk → Change → Type 0
-MayChange desk (Put document) = IsNext desk document
+MayChange desk (Put document) = Fits desk document
+MayChange desk (Remove number) = ⊤
+MayChange desk (Close date) = ⊤

@@ -1,21 +1,33 @@
 -- Private: what the desk keeps true of its documents.
-use Rattle.std.specs.Prelude.{ℕ, ◌≤◌, ◌<◌, ◌^◌, List, All, length, map}
-use Rattle.std.specs.List.Sorted.{IsStrictlyIncreasing}
+use Rattle.std.specs.Prelude.{◌≡◌, ℕ, ◌≤◌, List, [], All, length}
 use Rattle.reg_base.specs.declared.records.Document.{Document}
+use Rattle.cfg_model.specs.declared.config.Config.{Config}
+use Rattle.cfg_model.specs.Limits.{IsWithinLimits}
+use Rattle.doc_store.specs.Stores.{Stored}
+use Rattle.desk_model.specs.Limits.{records_in, most_documents, most_kept_records}
 
--- no set of a register has more than 5,000 records
-abbrev pub HasShortSets : Document → Type 0
-HasShortSets d = All (λ set. length set ≤ 5_000) d.sets.registers
+-- no set has more than 5,000 records or entries
+abbrev pub AreShort : {X : Type 0} → List (List X) → Type 0
+AreShort sets = All (λ set. length set ≤ 5_000) sets
 
--- the numbers of documents
-abbrev pub numbers_of : List Document → List ℕ
-numbers_of documents = map (λ d. d.doc.number) documents
+-- a document has no more sets than a configuration has registers and ledgers, and all are short
+pub record HasShortLists (d : Document) : Type 0 where
+  pub registers : length d.sets.registers ≤ 32
+  pub ledgers : length d.sets.ledgers ≤ 8
+  pub records : AreShort d.sets.registers
+  pub entries : AreShort d.sets.ledgers
 
--- the documents stand in order of number, each up to the greatest one committed, no more are there
--- than were drawn, numbers have 32 bits, and sets are short
-pub record AreKept (documents : List Document) (top : ℕ) : Type 0 where
-  pub ordered : IsStrictlyIncreasing (numbers_of documents)
+-- documents have numbers up to the greatest one that was drawn, their records are counted, and
+-- neither are more than there may be
+pub record AreKept (documents : List Document) (top records : ℕ) : Type 0 where
   pub numbered : All (λ d. d.doc.number ≤ top) documents
-  pub drawn : length documents ≤ top
-  pub range : top < 2 ^ 32
-  pub short : All HasShortSets documents
+  pub short : All HasShortLists documents
+  pub few : length documents ≤ most_documents
+  pub counted : records ≡ records_in documents
+  pub within : records ≤ most_kept_records
+
+-- what the desk keeps: a configuration within its limits, and a store in which nothing is staged
+pub record IsKept (config : Config) (store : Stored) (top records : ℕ) : Type 0 where
+  pub limits : IsWithinLimits config
+  pub staged : store.staged ≡ []
+  pub kept : AreKept store.documents top records

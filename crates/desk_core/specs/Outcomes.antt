@@ -11,7 +11,18 @@ use Rattle.desk_model.specs.declared.last.Last.{Last}
 use Rattle.desk_model.specs.State.{Desk}
 use Rattle.desk_model.specs.Effects.{Effect}
 use Rattle.desk_model.specs.Stops.{Stop}
-use Rattle.desk_model.specs.Desk.{Event, reply_at}
+use Rattle.reg_base.specs.Results.{◌>>=◌}
+use Rattle.reg_base.specs.declared.records.Document.{Document}
+use Rattle.desk_words.specs.declared.request.Request.{Request}
+use Rattle.desk_words.specs.declared.reply.Refusal.{Refusal}
+use Rattle.desk_model.specs.declared.plan.Plan.{Plan}
+use Rattle.desk_model.specs.declared.plan.Source.{Source}
+use Rattle.desk_model.specs.declared.plan.Source.TheVariants.{ByHand, Kept, Nothing, Removed}
+use Rattle.desk_model.specs.Plans.{Sight}
+use Rattle.desk_model.specs.Limits.{limits_of}
+use Rattle.desk_model.specs.Effects.{Tests, effect_with}
+use Rattle.desk_model.specs.Serial.{deed_effect, plan_effect}
+use Rattle.desk_model.specs.Desk.{Event, reply_at, tests_of, meaning_at, command_at}
 use Rattle.desk_core.specs.declared.outcome.Change.{Change}
 use Rattle.desk_core.specs.declared.outcome.Outcome.{Outcome}
 use Rattle.desk_core.specs.declared.outcome.Outcome.TheVariants.{Replies, Changes}
@@ -65,3 +76,31 @@ pub record Prepares (desk : Desk) (event : Event) (prepared : Prepared) : Type 0
   pub text_is : prepared.text.items ≡ reply_text event.reply ++ 10 ∷ []
   pub desk_is : event.desk ≡ desk_with desk prepared.entry
   pub may : ForSome prepared.entry (λ entry. MayChange desk entry.change)
+
+-- ---- deeds
+
+-- the effect of a request's deed at a desk, its canonical text being this
+abbrev pub deed_at : Desk → Request → List ℕ → Result Effect Refusal
+deed_at desk request text = deed_effect (tests_of desk (meaning_at desk request) text) desk.setting
+    desk.serial (command_at desk request).number (meaning_at desk request).deed
+
+-- the effect of a plan, where there is one
+abbrev pub planned_effect : Desk → Tests → Sight → Result Plan Refusal → Result Effect Refusal
+planned_effect desk tests sight planned =
+    planned >>= λ plan. plan_effect tests desk.setting desk.serial sight.drawn sight plan
+
+-- the effect of a plan whose document was made, or could not be made
+abbrev pub made_effect : Desk → Sight → Plan → Result (Option Document) Refusal →
+    Result Effect Refusal
+made_effect desk sight plan made = limits_of desk.serial sight plan made >>= λ _. made >>=
+    λ after. Ok (effect_with desk.serial sight.drawn plan (record {
+      before = sight.before;
+      after = after;
+    }))
+
+-- a plan's document is put, and not removed
+abbrev pub IsPut : Source → Type 0
+IsPut (ByHand given) = ⊤
+IsPut Kept = ⊤
+IsPut Nothing = ⊤
+IsPut Removed = ⊥

@@ -14,8 +14,13 @@ pub(crate) fn clerk_of(request: &Request) -> &Name
     ensures { (config : ConfigOf) → result.now ≡ (meaning_of config request.now).clerk }
 {
     match request {
+        Request::Write(write) => &write.clerk,
+        Request::Mark(switch) | Request::Activity(switch) => &switch.clerk,
         Request::Manual(manual) => &manual.clerk,
+        Request::Close(close) => &close.clerk,
+        Request::Sweep(sweep) => &sweep.clerk,
         Request::Balance(balance) => &balance.clerk,
+        Request::Doc(question) => &question.clerk,
     }
 }
 
@@ -24,8 +29,11 @@ pub(crate) fn right_of(request: &Request) -> Right
     ensures { (config : ConfigOf) → result ≡ (meaning_of config request.now).right }
 {
     match request {
-        Request::Manual(_) => Right::Manual,
-        Request::Balance(_) => Right::Read,
+        Request::Write(_) => Right::Write,
+        Request::Mark(_) => Right::Post,
+        Request::Manual(_) | Request::Activity(_) => Right::Manual,
+        Request::Close(_) | Request::Sweep(_) => Right::Admin,
+        Request::Balance(_) | Request::Doc(_) => Right::Read,
     }
 }
 
@@ -34,8 +42,12 @@ pub(crate) fn number_of(request: &Request) -> Option<u32>
     ensures { (config : ConfigOf) → result ≡ (meaning_of config request.now).number }
 {
     match request {
+        Request::Write(write) => Some(write.no),
+        Request::Mark(switch) | Request::Activity(switch) => Some(switch.no),
         Request::Manual(manual) => Some(manual.no),
-        Request::Balance(_) => None,
+        Request::Close(close) => Some(close.no),
+        Request::Sweep(sweep) => Some(sweep.no),
+        Request::Balance(_) | Request::Doc(_) => None,
     }
 }
 

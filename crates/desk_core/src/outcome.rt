@@ -10,7 +10,7 @@ ghost use Rattle.desk_core.specs.declared.outcome.Outcome.TheVariants.{Replies};
 use crate::numbers::last_request;
 use desk_model::Last;
 use desk_words::{Acknowledgement, Answer, Refusal, Reply, Request};
-use reg_base::{Document, Memory};
+use reg_base::{Date, Document, Memory};
 use std::alloc::Global;
 
 /// What is left to be done to a desk.
@@ -18,6 +18,10 @@ use std::alloc::Global;
 pub enum Change {
     /// A document is put in the place of its number.
     Put(Document),
+    /// The document of this number is removed.
+    Remove(u32),
+    /// The books are closed before this date.
+    Close(Date),
 }
 
 /// What a request comes to.
@@ -54,6 +58,26 @@ pub(crate) fn refusal_outcome(refusal: Refusal) -> Outcome
     ensures { result ≡ Replies (Reply.Refused refusal) }
 {
     Outcome::Replies(Reply::Refused(refusal))
+}
+
+// The books are to be closed before a date.
+pub(crate) fn close_outcome(date: Date) -> Outcome
+    ensures { result ≡ Outcome.Changes (Change.Close date) (Acknowledgement.Closed date) }
+{
+    Outcome::Changes {
+        change: Change::Close(date),
+        acknowledgement: Acknowledgement::Closed { date },
+    }
+}
+
+// A document is to be removed.
+pub(crate) fn removal_outcome(number: u32) -> Outcome
+    ensures { result ≡ Outcome.Changes (Change.Remove number) (Acknowledgement.Swept number) }
+{
+    Outcome::Changes {
+        change: Change::Remove(number),
+        acknowledgement: Acknowledgement::Swept { doc: number },
+    }
 }
 
 // A document that was made is to be put, and its change is acknowledged by how it stands.

@@ -1,9 +1,10 @@
 //! The parts of a record: each text is read for the dimension or resource of its place.
 ghost use Rattle.std.specs.Prelude.{◌≡◌, List, ℕ, Option, IfOk};
-ghost use Rattle.desk_model.specs.Manuals.{value_in, amount_in, values_for};
+ghost use Rattle.desk_model.specs.GivenRecords.{value_in, amount_in, values_for};
+ghost use Rattle.desk_model.specs.GivenRecords.{units_in as units_at};
 
 use cfg_model::{Dimension, Resource};
-use reg_base::{Code, List, Memory, Num, Point, Text, Value};
+use reg_base::{Code, List, Memory, Num, Point, Scale, Text, Value};
 use std::alloc::Global;
 
 // A dimension or a resource, for which a text is read.
@@ -31,9 +32,16 @@ impl Part<i64> for Resource {
     ghost reads = { amount_in };
 
     fn read(&self, text: &str) -> Option<i64> {
-        let num = Num::parse(text, self.scale.get()).ok()?;
-        Some(num.units)
+        units_in(self.scale, text)
     }
+}
+
+// The number that a text spells at a scale, in units.
+pub(crate) fn units_in(scale: Scale, text: &str) -> Option<i64>
+    ensures { result ≡ units_at scale text.now }
+{
+    let num = Num::parse(text, scale.get()).ok()?;
+    Some(num.units)
 }
 
 // What the texts spell, where there is one for each part and all are read.

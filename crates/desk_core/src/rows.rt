@@ -7,9 +7,10 @@ ghost use Rattle.reg_base.specs.Cuts.{inside};
 ghost use Rattle.reg_base.specs.Records.{booked_by, point_of, records_within};
 ghost use Rattle.reg_base.specs.Records.{amount_at as amount_of};
 ghost use Rattle.reg_base.specs.Balances.{sum_rows, is_shown};
-ghost use Rattle.desk_core.specs.Invariants.{HasShortSets};
+ghost use Rattle.desk_core.specs.Invariants.{HasShortLists};
 ghost use Rattle.desk_core.specs.Rows.{booked, rows_of, sums_at, sum_at, IsInReach, Adds, AreOfFew};
 
+use doc_store::Documents;
 use reg_base::{Cut, DocState, Document, List, Mark, Memory, Point, Rec, SumRow, Value, inside};
 use std::alloc::Global;
 use std::collections::BTreeMap;
@@ -18,15 +19,15 @@ use std::collections::BTreeMap;
 // left out.
 pub(crate) fn balance_rows(
     alloc: Global,
-    documents: &[Document],
+    documents: Documents<'_>,
     register: usize,
     resources: usize,
     cut: Cut,
 ) -> Result<List<SumRow>, Memory>
-    requires few { length documents.now < 2 ^ 32 }
-    requires short { All HasShortSets documents.now }
+    requires few { length documents < 2 ^ 32 }
+    requires short { All HasShortLists documents }
     ensures { IfOk result (λ rows. rows ≡ sum_rows resources None
-        (filter (λ b. inside cut (point_of b)) (flat_map (booked_by register) documents.now))) }
+        (filter (λ b. inside cut (point_of b)) (flat_map (booked_by register) documents.entry))) }
 {
     let mut sums = BTreeMap::new(alloc);
     for document in documents {
@@ -45,7 +46,7 @@ fn add_document(
     cut: &Cut,
 ) -> Result<(), Memory>
     requires few { AreOfFew (2 ^ 45) resources (rows_of sums.old.entries) }
-    requires short { HasShortSets document.now }
+    requires short { HasShortLists document.now }
     ensures { IfOk result (λ _. Adds resources
         (records_within cut.now (booked_by register document.now))
         sums.old.entries sums.new.entries) }

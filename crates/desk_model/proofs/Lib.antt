@@ -2,8 +2,13 @@ pub mod ErrorLemmas
 pub mod ForAbove
 pub mod LawLemmas
 pub mod NumberLemmas
+pub mod RefusalScales
 pub mod RepeatLemmas
+pub mod RowBooks
+pub mod WorkedDocuments
+pub mod WorkedEntries
+pub mod WorkedLimits
+pub mod WorkedRows
 pub mod ReplayLemmas
 pub mod ScaleLemmas
 pub mod StepCases
-pub mod WorkedRows

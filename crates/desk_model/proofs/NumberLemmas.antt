@@ -167,7 +167,8 @@ reached-below number greater None reached above = absurd reached
 reached-below number greater (Some last) reached above = omega arith
 
 -- what a request leaves as its clerk's last
-unfoldable pub left_by : (desk : Desk) (r : Request) → Enters desk (meaning_at desk r) r (step desk r) → Last
+unfoldable pub left_by : (desk : Desk) (r : Request) →
+    Enters desk (meaning_at desk r) r (step desk r) → Last
 left_by desk r enters = record {
   clerk = (meaning_at desk r).clerk;
   number = enters.number;

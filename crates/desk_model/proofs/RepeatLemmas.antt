@@ -11,26 +11,25 @@ use Rattle.reg_base.specs.declared.line.Line.{Line}
 use Rattle.reg_base.specs.Results.{◌>>=◌, unless}
 use Rattle.desk_words.specs.declared.request.Request.{Request}
 use Rattle.desk_words.specs.declared.fault.WordFault.{WordFault}
-use Rattle.desk_words.specs.declared.reply.Answer.TheVariants.{Acknowledged}
-use Rattle.desk_words.specs.declared.reply.Reply.TheVariants.{Done}
+use Rattle.desk_words.specs.declared.reply.Acknowledgement.{Acknowledgement}
 use Rattle.desk_words.specs.declared.reply.Refusal.TheVariants.{UnknownClerk, NotAllowed, Stale}
 use Rattle.desk_words.specs.Reading.{request}
 use Rattle.desk_words.specs.RequestTexts.{request_text}
 use Rattle.desk_model.specs.declared.last.Last.{Last}
 use Rattle.desk_model.specs.State.{Desk, Command}
-use Rattle.desk_model.specs.Stops.{refuses, repeats, or_stop}
+use Rattle.desk_model.specs.Stops.{Stop, refuses, repeats, or_stop}
 use Rattle.desk_model.specs.Clerks.{is_clerk, is_allowed, is_batch}
 use Rattle.desk_model.specs.LastRequests.{last_of, same_number, number_after, number_test}
 use Rattle.desk_model.specs.Meanings.{meaning_of}
 use Rattle.desk_model.specs.Serial.{deed_effect, effect_of}
-use Rattle.desk_model.specs.Desk.{meaning_at, command_at, tests_of, event_of, step}
+use Rattle.desk_model.specs.Desk.{meaning_at, command_at, tests_of, reply_at, event_of, step}
 use Rattle.desk_model.specs.Answers.{refusal_event, event_of_reading}
 use Rattle.desk_model.specs.Answers.{line_event, line_desk, desk_after}
 use Rattle.desk_model.specs.Laws.{Commits, NumbersRise, NoneCommits, RepeatsChangeNothing}
 use Rattle.desk_model.specs.Laws.{RepeatsAreAnswered, LawsHold}
 use Rattle.desk_model.proofs.LawLemmas.{BalancesHold-always}
 use Rattle.desk_model.proofs.StepCases.{IsAbove}
-use Rattle.desk_model.proofs.NumberLemmas.{last_of-put, last_of-other}
+use Rattle.desk_model.proofs.NumberLemmas.{bytes_eq-same, last_of-put, last_of-other}
 use Rattle.desk_model.proofs.NumberLemmas.{StaysAt, EntersAt, line-comes, HasReached}
 use Rattle.desk_model.proofs.NumberLemmas.{reached-below, reached-kept, left_by}
 
@@ -237,20 +236,21 @@ last-stays desk (line ∷ lines) clerk none =
     at (inl stays) = ap (λ d. last_of clerk d.serial.lasts) stays.same
     at (inr entry) = other entry (bytes_eq (meaning_at desk entry.r).clerk clerk) refl
 
--- a request whose clerk's last one it is gives the kept reply
-step-repeats : (desk : Desk) (r : Request) (last : Last) (number : ℕ) →
+-- a request under the number of its clerk's last one goes no further: what its text says beside the
+-- last one's is the reply
+pub step-same_number : (desk : Desk) (r : Request) (last : Last) (number : ℕ) (stop : Stop) →
     is_clerk desk.setting.config (meaning_at desk r).clerk ≡ true →
     is_allowed desk.setting.config (meaning_at desk r).clerk (meaning_at desk r).right ≡ true →
     (meaning_at desk r).number ≡ Some number →
-    last_of (meaning_at desk r).clerk desk.serial.lasts ≡ Some last →
-    last.number ≡ number → last.text ≡ request_text r →
-    (step desk r).reply ≡ Done (Acknowledged last.acknowledgement)
+    last_of (meaning_at desk r).clerk desk.serial.lasts ≡ Some last → last.number ≡ number →
+    same_number (bytes_eq (request_text r) last.text) last.acknowledgement ≡ Err stop →
+    (step desk r).reply ≡ reply_at stop
 unfolding step effect_of
-step-repeats desk r last number known allowed numbered found number_is text_is =
+step-same_number desk r last number stop known allowed numbered found number_is beside =
     ap (λ t. (event_of desk (meaning_at desk r) (command_at desk r) t).reply) stops
   where
     tested : number_test desk.serial.lasts (meaning_at desk r).clerk (meaning_at desk r).number
-        (request_text r) ≡ Err (repeats last.acknowledgement)
+        (request_text r) ≡ Err stop
     tested =
         ap (λ n. number_test desk.serial.lasts (meaning_at desk r).clerk n (request_text r))
         numbered
@@ -258,8 +258,7 @@ step-repeats desk r last number known allowed numbered found number_is text_is =
         ∙ ap (λ o. match_ordering o (Err (refuses (Stale last.number)))
         (same_number (bytes_eq (request_text r) last.text) last.acknowledgement) (Ok tt))
         (sym (nat_cmp_is number last.number Equal (sym number_is)))
-        ∙ ap (λ b. same_number b last.acknowledgement)
-        ((bytes_eq-Decides (request_text r) last.text).1 (sym text_is))
+        ∙ beside
 
     stops : (unless (is_clerk desk.setting.config (meaning_at desk r).clerk)
         (refuses UnknownClerk) >>= λ _. unless
@@ -269,8 +268,14 @@ step-repeats desk r last number known allowed numbered found number_is text_is =
         (request_text r) >>= λ _. or_stop
         (deed_effect (tests_of desk (meaning_at desk r) (request_text r)) desk.setting desk.serial
         (command_at desk r).number (meaning_at desk r).deed))
-        ≡ Err (repeats last.acknowledgement)
+        ≡ Err stop
     stops = rw (known, allowed, tested)
+
+-- the same text beside the last one's is a repeat
+pub same_number-same : (text : List ℕ) (acknowledgement : Acknowledgement) →
+    same_number (bytes_eq text text) acknowledgement ≡ Err (repeats acknowledgement)
+same_number-same text acknowledgement =
+    ap (λ b. same_number b acknowledgement) (bytes_eq-same text)
 
 RepeatsAreAnswered-always : (desk : Desk) (lines : List Line) → RepeatsAreAnswered desk lines
 unfolding left_by
@@ -306,8 +311,10 @@ RepeatsAreAnswered-always desk lines =
         (meaning_at later r).right ≡ true =
         (λ i. is_allowed (setting i).config (means i).clerk (means i).right)
         ∙ for.entry.enters.allowed in
-        let stepped = step-repeats later r last for.entry.enters.number known allowed
-        (ap (λ m. m.number) means ∙ for.entry.enters.number_is) found refl refl in
+        let stepped = step-same_number later r last for.entry.enters.number
+        (repeats last.acknowledgement) known allowed
+        (ap (λ m. m.number) means ∙ for.entry.enters.number_is) found refl
+        (same_number-same (request_text r) last.acknowledgement) in
         let read = read-again first line again clerk number for same in
         let outside : is_batch (meaning_at later r).clerk ≡ false =
         (λ i. is_batch (means i).clerk) ∙ for.entry.outside in

@@ -1,7 +1,7 @@
 -- What a desk accepts, the serial machine accepts.
 use Rattle.std.proofs.Common.{◌≡◌, ℕ, ◌+◌, ◌<◌, ◌≤◌, Bool, true, false, ◌&&◌, cond, nat_lt, Some}
-use Rattle.std.proofs.Common.{None, is_none, List, [], ◌∷◌, All, Result, Ok, Err, refl, ap, ◌∙◌}
-use Rattle.std.proofs.Common.{sym, arith}
+use Rattle.std.proofs.Common.{None, Option, is_none, nat_le, length, List, [], ◌∷◌, All}
+use Rattle.std.proofs.Common.{Result, Ok, Err, refl, ap, ◌∙◌, sym, arith}
 use Rattle.std.proofs.lemmas.List.Elements.{All-head, All-tail}
 use Rattle.std.proofs.lemmas.Bool.Decides.{nat_tests}
 use Rattle.std.specs.Cmp.{nat_cmp_is}
@@ -11,24 +11,26 @@ use Rattle.reg_base.specs.declared.records.Document.{Document}
 use Rattle.reg_base.specs.Results.{◌>>=◌, unless}
 use Rattle.desk_words.specs.declared.request.Request.{Request}
 use Rattle.desk_words.specs.declared.reply.Refusal.{Refusal}
-use Rattle.desk_words.specs.declared.request.Request.TheVariants.{Manual, Balance}
+use Rattle.desk_words.specs.declared.request.Request.TheVariants.{Write, Mark, Manual, Activity}
+use Rattle.desk_words.specs.declared.request.Request.TheVariants.{Close, Sweep, Balance, Doc}
 use Rattle.desk_words.specs.declared.reply.Refusal.TheVariants.{UnknownClerk, NotAllowed, Limit}
 use Rattle.desk_words.specs.RequestTexts.{request_text}
-use Rattle.desk_words.specs.declared.reply.Limit.TheVariants.{Numbers}
-use Rattle.desk_model.specs.State.{Setting, State, Desk}
+use Rattle.desk_words.specs.declared.reply.Limit.TheVariants.{Documents, Lines, Numbers}
 use Rattle.reg_base.specs.Documents.{document_at}
 use Rattle.desk_model.specs.declared.plan.Plan.{Plan}
-use Rattle.desk_model.specs.Plans.{Sight, Change, Deed, changes, asks_register}
-use Rattle.desk_model.specs.Effects.{Effect, Tests, no_tests}
+use Rattle.desk_model.specs.State.{Setting, State, Desk}
+use Rattle.desk_model.specs.Plans.{Sight, Change, Deed, changes, closes, asks_register}
+use Rattle.desk_model.specs.Plans.{asks_document}
+use Rattle.desk_model.specs.Effects.{Effect, Tests, no_tests, effect_with}
 use Rattle.desk_model.specs.Stops.{Stop, refuses, or_stop}
-use Rattle.desk_model.specs.Serial.{sight_of}
-use Rattle.desk_model.specs.Effects.{effect_with}
-use Rattle.desk_model.specs.Serial.{document_from, plan_effect, change_effect}
+use Rattle.desk_model.specs.Limits.{greatest_number, most_documents, most_lines, within_limit}
+use Rattle.desk_model.specs.Limits.{documents_with_plan, records_limit, number_is_left, limits_of}
+use Rattle.desk_model.specs.DocumentSets.{document_from}
+use Rattle.desk_model.specs.Serial.{sight_of, plan_effect, change_effect}
 use Rattle.desk_model.specs.Serial.{deed_effect, effect_of, is_drawn, bad_number}
-use Rattle.desk_model.specs.Clerks.{is_clerk, is_allowed}
 use Rattle.desk_model.specs.Serial.{or_fault, serial}
-use Rattle.desk_model.specs.Desk.{meaning_at, command_at, tests_of, number_is_left, next_number}
-use Rattle.desk_model.specs.Desk.{greatest_number}
+use Rattle.desk_model.specs.Clerks.{is_clerk, is_allowed}
+use Rattle.desk_model.specs.Desk.{meaning_at, command_at, tests_of, next_number}
 use Rattle.desk_model.specs.Laws.{AreNumbered, Replays}
 
 -- ---- a number above all others is free
@@ -48,30 +50,37 @@ document_at-above number top (d ∷ ds) all above =
     (nat_cmp-Greater number d.doc.number greater)
     ∙ document_at-above number top ds (All-tail P d ds all) above
 
--- the next number may be drawn where one is left, and 0 stands where none is drawn
-is_drawn-next : (state : State) (draws : Bool) → AreNumbered state →
-    number_is_left state draws ≡ true →
-    is_drawn state draws (cond draws (next_number state) 0) ≡ true
-is_drawn-next state true numbered left =
+-- a number behind one that is at most another is below that
+below-after : (top most : ℕ) → nat_le (top + 1) most ≡ true → nat_lt top most ≡ true
+below-after top most h = grind (arith, nat_tests)
+
+-- the next number may be drawn where one is left
+is_drawn-next : (state : State) → AreNumbered state →
+    nat_le (state.top + 1) greatest_number ≡ true → is_drawn state true (next_number state) ≡ true
+is_drawn-next state numbered left =
     let free = document_at-above (state.top + 1) state.top state.documents numbered (omega arith) in
     let some : nat_lt 0 (state.top + 1) ≡ true = grind (arith, nat_tests) in
-    ap (λ b. is_drawn state true (cond b (state.top + 1) 0)) left
+    ap (λ b. is_drawn state true (cond b (state.top + 1) 0))
+    (below-after state.top greatest_number left)
     ∙ ap (λ d. nat_lt 0 (state.top + 1) && is_none d) free ∙ ap (λ b. b && true) some
-is_drawn-next state false numbered left = refl
 
 -- ---- tests that passed can be left out
 
--- what stands behind the tests of a plan
+-- the document that a plan makes, at what it sees
+abbrev made_by : Setting → Sight → Plan → Result (Option Document) Refusal
+made_by setting sight plan = document_from setting.config sight.before plan.doc plan.source
+
+-- what stands behind the limits of a plan
 abbrev behind : Setting → State → ℕ → Sight → Plan → Result Effect Refusal
-behind setting state number sight plan =
-    document_from setting state plan.doc plan.source >>= λ after. Ok
+behind setting state number sight plan = made_by setting sight plan >>= λ after. Ok
     (effect_with state number plan (record { before = sight.before; after = after }))
 
--- a plan that has an effect passed the tests, and has it without them
+-- a plan that has an effect passed the limits, and has it without them
 record Passes (tests : Tests) (setting : Setting) (state : State) (number : ℕ) (change : Change)
     (effect : Effect) : Type 0 where
   plan : Plan
-  passed : tests.plan plan ≡ Ok tt
+  passed : tests.limits (sight_of state number change) plan
+      (made_by setting (sight_of state number change) plan) ≡ Ok tt
   same : change_effect no_tests setting state number change ≡ Ok effect
 
 change_effect-passes : (tests : Tests) (setting : Setting) (state : State) (number : ℕ)
@@ -82,48 +91,89 @@ unfolding change_effect plan_effect
 change_effect-passes tests setting state number change effect accepted =
     at (change.plan (sight_of state number change)) refl accepted
   where
-    test : (plan : Plan) → change.plan (sight_of state number change) ≡ Ok plan →
-        (tested : Result (Unit {0}) Refusal) → tests.plan plan ≡ tested →
-        (tested >>= λ _. behind setting state number (sight_of state number change) plan) ≡ Ok
-        effect → Passes tests setting state number change effect
+    sight : Sight
+    sight = sight_of state number change
+
+    test : (plan : Plan) → change.plan sight ≡ Ok plan → (tested : Result (Unit {0}) Refusal) →
+        tests.limits sight plan (made_by setting sight plan) ≡ tested →
+        (tested >>= λ _. behind setting state number sight plan) ≡ Ok effect →
+        Passes tests setting state number change effect
     test plan planned (Ok u) is h = record {
       plan = plan;
       passed = is;
-      same = ap (λ (r : Result Plan Refusal). r >>= λ p. behind setting state number
-          (sight_of state number change) p) planned ∙ h;
+      same = ap (λ (r : Result Plan Refusal). r >>= λ p. behind setting state number sight p)
+          planned ∙ h;
     }
     test plan planned (Err refusal) is h = cc
 
-    at : (planned : Result Plan Refusal) → change.plan (sight_of state number change) ≡ planned →
-        (planned >>= λ plan. tests.plan plan >>= λ _. behind setting state number
-        (sight_of state number change) plan) ≡ Ok effect →
-        Passes tests setting state number change effect
-    at (Ok plan) is h = test plan is (tests.plan plan) refl h
+    at : (planned : Result Plan Refusal) → change.plan sight ≡ planned →
+        (planned >>= λ plan. tests.limits sight plan (made_by setting sight plan) >>= λ _. behind
+        setting state number sight plan) ≡ Ok effect → Passes tests setting state number change
+        effect
+    at (Ok plan) is h = test plan is (tests.limits sight plan (made_by setting sight plan)) refl h
     at (Err refusal) is h = cc
-
-unless-passed : {F : Type 0} (b : Bool) (fault : F) → unless b fault ≡ Ok tt → b ≡ true
-unless-passed true fault h = refl
-unless-passed false fault h = cc
-
--- a request that a desk accepts and that draws a number had one left
-number-left : (desk : Desk) (request : Request) (effect : Effect) →
-    deed_effect (tests_of desk (meaning_at desk request) (request_text request)) desk.setting desk.serial
-    (command_at desk request).number (meaning_at desk request).deed ≡ Ok effect →
-    number_is_left desk.serial (meaning_at desk request).draws ≡ true
-number-left desk (Manual m) effect h =
-    let passes = change_effect-passes
-    (tests_of desk (meaning_at desk (Manual m)) (request_text (Manual m))) desk.setting desk.serial
-    (command_at desk (Manual m)).number _ effect h in
-    unless-passed (number_is_left desk.serial (meaning_at desk (Manual m)).draws)
-    (Limit Numbers greatest_number) passes.passed
-number-left desk (Balance b) effect h = refl
 
 deed_effect-no_tests : (tests : Tests) (setting : Setting) (state : State) (number : ℕ)
     (deed : Deed) (effect : Effect) → deed_effect tests setting state number deed ≡ Ok effect →
     deed_effect no_tests setting state number deed ≡ Ok effect
 deed_effect-no_tests tests setting state number (changes change) effect h =
     (change_effect-passes tests setting state number change effect h).same
+deed_effect-no_tests tests setting state number (closes date) effect h = h
 deed_effect-no_tests tests setting state number (asks_register question) effect h = h
+deed_effect-no_tests tests setting state number (asks_document question) effect h = h
+
+-- ---- a number that was drawn is free
+
+unless-passed : {F : Type 0} (b : Bool) (fault : F) → unless b fault ≡ Ok tt → b ≡ true
+unless-passed true fault h = refl
+unless-passed false fault h = cc
+
+-- where a test and others behind it were passed, the others were
+rest-passed : {F : Type 0} (first rest : Result (Unit {0}) F) → (first >>= λ _. rest) ≡ Ok tt →
+    rest ≡ Ok tt
+rest-passed (Ok u) rest h = h
+rest-passed (Err fault) rest h = cc
+
+-- where the limits of a desk were passed, a number was left
+limits_of-left : (state : State) (sight : Sight) (plan : Plan)
+    (made : Result (Option Document) Refusal) → limits_of state sight plan made ≡ Ok tt →
+    number_is_left state sight ≡ true
+unfolding limits_of
+limits_of-left state sight plan made h =
+    unless-passed (number_is_left state sight) (Limit Numbers greatest_number)
+    (rest-passed (within_limit Lines (length plan.doc.lines) most_lines) _
+    (rest-passed (records_limit state sight made) _
+    (rest-passed (within_limit Documents (documents_with_plan state sight) most_documents) _ h)))
+
+-- a change that a desk accepts has a number of its own exactly where it draws one
+making-drawn : (tested : Result (Unit {0}) Stop) (setting : Setting) (state : State)
+    (doc : Option ℕ) (key : Option (List ℕ)) (plan : Sight → Result Plan Refusal)
+    (effect : Effect) → AreNumbered state →
+    change_effect (record { number = tested; limits = limits_of state }) setting state
+    (cond (is_none doc) (next_number state) 0) (record { doc = doc; key = key; plan = plan })
+    ≡ Ok effect →
+    is_drawn state (is_none doc) (cond (is_none doc) (next_number state) 0) ≡ true
+making-drawn tested setting state None key plan effect numbered h =
+    let passes = change_effect-passes (record { number = tested; limits = limits_of state })
+    setting state (next_number state) (record { doc = None; key = key; plan = plan }) effect h in
+    is_drawn-next state numbered (limits_of-left state _ passes.plan _ passes.passed)
+making-drawn tested setting state (Some number) key plan effect numbered h = refl
+
+-- so has each request that a desk accepts
+drawn-at : (desk : Desk) (request : Request) (effect : Effect) → AreNumbered desk.serial →
+    deed_effect (tests_of desk (meaning_at desk request) (request_text request)) desk.setting
+    desk.serial (command_at desk request).number (meaning_at desk request).deed ≡ Ok effect →
+    is_drawn desk.serial (meaning_at desk request).draws (command_at desk request).number ≡ true
+drawn-at desk (Write w) effect numbered h =
+    making-drawn _ desk.setting desk.serial w.doc w.key _ effect numbered h
+drawn-at desk (Mark m) effect numbered h = refl
+drawn-at desk (Manual m) effect numbered h =
+    making-drawn _ desk.setting desk.serial m.doc m.key _ effect numbered h
+drawn-at desk (Activity m) effect numbered h = refl
+drawn-at desk (Close c) effect numbered h = refl
+drawn-at desk (Sweep s) effect numbered h = refl
+drawn-at desk (Balance b) effect numbered h = refl
+drawn-at desk (Doc q) effect numbered h = refl
 
 -- a stop is no effect
 or_stop-Ok : (tried : Result Effect Refusal) (effect : Effect) → or_stop tried ≡ Ok effect →
@@ -155,8 +205,7 @@ Replays-always desk request = known (is_clerk desk.setting.config (meaning_at de
         (command_at desk request).number (meaning_at desk request).deed) effect h in
         let dropped = deed_effect-no_tests tests desk.setting desk.serial
         (command_at desk request).number (meaning_at desk request).deed effect tried in
-        let drawn = is_drawn-next desk.serial (meaning_at desk request).draws numbered
-        (number-left desk request effect tried) in
+        let drawn = drawn-at desk request effect numbered tried in
         ap (λ b. unless b bad_number >>= λ _. or_fault
         (or_stop (deed_effect no_tests desk.setting desk.serial (command_at desk request).number
         (meaning_at desk request).deed))) drawn

@@ -10,7 +10,8 @@ use Rattle.std.specs.Str.{bytes_eq}
 use Rattle.reg_base.specs.declared.right.Right.{Right}
 use Rattle.reg_base.specs.Results.{◌>>=◌, unless}
 use Rattle.desk_words.specs.declared.request.Request.{Request}
-use Rattle.desk_words.specs.declared.request.Request.TheVariants.{Manual, Balance}
+use Rattle.desk_words.specs.declared.request.Request.TheVariants.{Write, Mark, Manual, Activity}
+use Rattle.desk_words.specs.declared.request.Request.TheVariants.{Close, Sweep, Balance, Doc}
 use Rattle.desk_words.specs.declared.reply.Acknowledgement.{Acknowledgement}
 use Rattle.desk_words.specs.declared.reply.Answer.{Answer}
 use Rattle.desk_words.specs.declared.reply.Answer.TheVariants.{Acknowledged}
@@ -19,17 +20,21 @@ use Rattle.desk_words.specs.declared.reply.Refusal.{Refusal}
 use Rattle.desk_words.specs.declared.reply.Refusal.TheVariants.{UnknownClerk, NotAllowed, Stale}
 use Rattle.desk_words.specs.RequestTexts.{request_text}
 use Rattle.desk_model.specs.declared.last.Last.{Last}
-use Rattle.desk_model.specs.State.{Setting, State, Desk}
+use Rattle.desk_model.specs.State.{Setting, State, Desk, Command}
 use Rattle.desk_model.specs.Stops.{Stop, refuses, or_stop}
 use Rattle.desk_model.specs.Clerks.{is_clerk, is_allowed}
 use Rattle.desk_model.specs.LastRequests.{last_of, with_last, same_number, number_after}
 use Rattle.desk_model.specs.LastRequests.{number_test}
-use Rattle.desk_model.specs.Plans.{Change, Question, changes, asks_register, Meaning}
-use Rattle.desk_model.specs.Questions.{question_balance}
-use Rattle.desk_model.specs.Effects.{Effect, Tests}
-use Rattle.desk_model.specs.Serial.{sight_of, document_from, plan_effect, change_effect}
-use Rattle.desk_model.specs.Serial.{question_answer, question_effect, deed_effect, effect_of}
-use Rattle.desk_model.specs.Desk.{Event, meaning_at, command_at, tests_of, event_of}
+use Rattle.desk_model.specs.Plans.{Change, Deed, changes, closes, asks_register, asks_document}
+use Rattle.desk_model.specs.Plans.{Meaning}
+use Rattle.desk_model.specs.Meanings.{asking}
+use Rattle.desk_model.specs.Questions.{question_balance, question_doc}
+use Rattle.desk_model.specs.Effects.{Effect, Tests, close_effect}
+use Rattle.desk_model.specs.DocumentSets.{document_from}
+use Rattle.desk_model.specs.Serial.{sight_of, plan_effect, change_effect, answer_effect}
+use Rattle.desk_model.specs.Serial.{question_answer, question_effect, document_answer}
+use Rattle.desk_model.specs.Serial.{document_effect, effect_of}
+use Rattle.desk_model.specs.Desk.{Event, meaning_at, command_at, tests_of, commits_of, event_of}
 use Rattle.desk_model.specs.Desk.{step}
 use Rattle.desk_model.proofs.ErrorLemmas.{IfOk-last}
 
@@ -59,7 +64,7 @@ number_after-above (Some last) number text h = at (nat_cmp number last.number) r
 
 -- ---- what a deed leaves
 
--- a change is acknowledged, and leaves the last requests
+-- what is done is acknowledged, and leaves the last requests
 record Acknowledges (state : State) (effect : Effect) : Type 0 where
   acknowledgement : Acknowledgement
   answer_is : effect.answer ≡ Acknowledged acknowledgement
@@ -69,9 +74,12 @@ change_effect-acknowledges : (tests : Tests) (setting : Setting) (state : State)
     (change : Change) → IfOk (change_effect tests setting state number change) (Acknowledges state)
 unfolding change_effect plan_effect
 change_effect-acknowledges tests setting state number change =
-    IfOk-last (Acknowledges state) (change.plan (sight_of state number change)) _
-    (λ plan. IfOk-last (Acknowledges state) (tests.plan plan) _
-    (λ u. IfOk-last (Acknowledges state) (document_from setting state plan.doc plan.source) _
+    let sight = sight_of state number change in
+    IfOk-last (Acknowledges state) (change.plan sight) _
+    (λ plan. IfOk-last (Acknowledges state) (tests.limits sight plan
+    (document_from setting.config sight.before plan.doc plan.source)) _
+    (λ u. IfOk-last (Acknowledges state)
+    (document_from setting.config sight.before plan.doc plan.source) _
     (λ after. record { acknowledgement = _; answer_is = refl; lasts_are = refl })))
 
 -- ---- the cases
@@ -112,37 +120,35 @@ event_by desk meaning r known allowed numbered done = event_of desk meaning (com
     (unless known (refuses UnknownClerk) >>= λ _. unless allowed
     (refuses (NotAllowed meaning.right)) >>= λ _. numbered >>= λ _. or_stop done)
 
--- a change with a number
-abbrev numbered_change : List ℕ → Right → ℕ → Bool → Change → Meaning
-numbered_change clerk right number draws change = record {
+-- what is done under a number
+abbrev numbered_deed : List ℕ → Right → ℕ → Bool → Deed → Meaning
+numbered_deed clerk right number draws deed = record {
   clerk = clerk;
   right = right;
   number = Some number;
   draws = draws;
-  deed = changes change;
+  deed = deed;
 }
 
--- a question, which has none
-abbrev asked_question : List ℕ → Right → Result Question Refusal → Meaning
-asked_question clerk right question = record {
-  clerk = clerk;
-  right = right;
-  number = None;
-  draws = false;
-  deed = asks_register question;
-}
+-- a deed commits its command, as an entry of its own
+abbrev CommitsOne : Deed → Type 0
+CommitsOne deed = (command : Command) → commits_of deed command ≡ (command ∷ []) ∷ []
+
+-- a deed commits nothing
+abbrev CommitsNone : Deed → Type 0
+CommitsNone deed = (command : Command) → commits_of deed command ≡ []
 
 module _ (desk : Desk) (r : Request) where
-  change-comes : (clerk : List ℕ) (right : Right) (number : ℕ) (draws : Bool) (change : Change) →
+  deed-comes : (clerk : List ℕ) (right : Right) (number : ℕ) (draws : Bool) (deed : Deed) →
       (known allowed : Bool) (numbered : Result (Unit {0}) Stop) (done : Result Effect Refusal) →
+      CommitsOne deed →
       is_clerk desk.setting.config clerk ≡ known →
       is_allowed desk.setting.config clerk right ≡ allowed →
       number_test desk.serial.lasts clerk (Some number) (request_text r) ≡ numbered →
       IfOk done (Acknowledges desk.serial) →
-      Comes desk (numbered_change clerk right number draws change) r
-      (event_by desk (numbered_change clerk right number draws change) r known allowed numbered
-      done)
-  change-comes clerk right number draws change true true (Ok u) (Ok effect) k a n ack =
+      Comes desk (numbered_deed clerk right number draws deed) r
+      (event_by desk (numbered_deed clerk right number draws deed) r known allowed numbered done)
+  deed-comes clerk right number draws deed true true (Ok u) (Ok effect) one k a n ack =
       inr (record {
         number = number;
         acknowledgement = ack.acknowledgement;
@@ -150,44 +156,62 @@ module _ (desk : Desk) (r : Request) where
         allowed = a;
         number_is = refl;
         above = number_after-above (last_of clerk desk.serial.lasts) number (request_text r) n;
-        commits_it = refl;
+        commits_it = one (command_at desk r);
         reply_is = ap Done ack.answer_is;
         lasts_are = rw (ack.answer_is, ack.lasts_are);
         setting_is = refl;
       })
-  change-comes clerk right number draws change true true (Ok u) (Err refusal) k a n ack =
+  deed-comes clerk right number draws deed true true (Ok u) (Err refusal) one k a n ack =
       inl (record { commits_none = refl; same = refl })
-  change-comes clerk right number draws change true true (Err stop) done k a n ack =
+  deed-comes clerk right number draws deed true true (Err stop) done one k a n ack =
       inl (record { commits_none = refl; same = refl })
-  change-comes clerk right number draws change true false numbered done k a n ack =
+  deed-comes clerk right number draws deed true false numbered done one k a n ack =
       inl (record { commits_none = refl; same = refl })
-  change-comes clerk right number draws change false allowed numbered done k a n ack =
+  deed-comes clerk right number draws deed false allowed numbered done one k a n ack =
       inl (record { commits_none = refl; same = refl })
 
-  question-stays : (clerk : List ℕ) (right : Right) (question : Result Question Refusal) →
-      (known allowed : Bool) (answer : Result Answer Refusal) →
-      Stays desk (event_by desk (asked_question clerk right question) r known allowed (Ok tt)
-      (answer >>= λ a. Ok (record { state = desk.serial; works = []; answer = a })))
-  question-stays clerk right question true true (Ok a) =
+  -- a change of a document is a deed that comes
+  change-comes : (clerk : List ℕ) (right : Right) (number : ℕ) (draws : Bool) (change : Change) →
+      Comes desk (numbered_deed clerk right number draws (changes change)) r
+      (event_by desk (numbered_deed clerk right number draws (changes change)) r
+      (is_clerk desk.setting.config clerk) (is_allowed desk.setting.config clerk right)
+      (number_test desk.serial.lasts clerk (Some number) (request_text r))
+      (change_effect (tests_of desk (numbered_deed clerk right number draws (changes change))
+      (request_text r)) desk.setting desk.serial (command_at desk r).number change))
+  change-comes clerk right number draws change =
+      deed-comes clerk right number draws (changes change) _ _ _ _ (λ command. refl) refl refl refl
+      (change_effect-acknowledges (tests_of desk
+      (numbered_deed clerk right number draws (changes change)) (request_text r)) desk.setting
+      desk.serial (command_at desk r).number change)
+
+  question-stays : (clerk : List ℕ) (deed : Deed) (known allowed : Bool)
+      (answer : Result Answer Refusal) → CommitsNone deed →
+      Stays desk (event_by desk (asking clerk deed) r known allowed (Ok tt)
+      (answer >>= λ a. Ok (answer_effect desk.serial a)))
+  question-stays clerk deed true true (Ok a) none =
+      record { commits_none = none (command_at desk r); same = refl }
+  question-stays clerk deed true true (Err refusal) none =
       record { commits_none = refl; same = refl }
-  question-stays clerk right question true true (Err refusal) =
-      record { commits_none = refl; same = refl }
-  question-stays clerk right question true false answer =
-      record { commits_none = refl; same = refl }
-  question-stays clerk right question false allowed answer =
-      record { commits_none = refl; same = refl }
+  question-stays clerk deed true false answer none = record { commits_none = refl; same = refl }
+  question-stays clerk deed false allowed answer none = record { commits_none = refl; same = refl }
 
 -- each step stays or enters
 pub step-comes : (desk : Desk) (r : Request) → Comes desk (meaning_at desk r) r (step desk r)
-unfolding step effect_of question_effect
-step-comes desk (Manual m) =
-    let meaning = meaning_at desk (Manual m) in
-    let tests = tests_of desk meaning (request_text (Manual m)) in
-    change-comes desk (Manual m) m.clerk meaning.right m.no meaning.draws _ _ _ _
-    (deed_effect tests desk.setting desk.serial (command_at desk (Manual m)).number meaning.deed)
-    refl refl refl
-    (change_effect-acknowledges tests desk.setting desk.serial
-    (command_at desk (Manual m)).number _)
+unfolding step effect_of question_effect document_effect
+step-comes desk (Write w) = change-comes desk (Write w) w.clerk _ w.no _ _
+step-comes desk (Mark m) = change-comes desk (Mark m) m.clerk _ m.no _ _
+step-comes desk (Manual m) = change-comes desk (Manual m) m.clerk _ m.no _ _
+step-comes desk (Activity m) = change-comes desk (Activity m) m.clerk _ m.no _ _
+step-comes desk (Close c) =
+    deed-comes desk (Close c) c.clerk _ c.no _ (closes c.date) _ _ _
+    (Ok (close_effect desk.serial c.date)) (λ command. refl) refl refl refl
+    (record { acknowledgement = _; answer_is = refl; lasts_are = refl })
+step-comes desk (Sweep s) = change-comes desk (Sweep s) s.clerk _ s.no _ _
 step-comes desk (Balance b) =
-    inl (question-stays desk (Balance b) b.clerk _ (question_balance desk.setting.config b) _ _
-    (question_answer desk.serial (question_balance desk.setting.config b)))
+    inl (question-stays desk (Balance b) b.clerk
+    (asks_register (question_balance desk.setting.config b)) _ _
+    (question_answer desk.serial (question_balance desk.setting.config b)) (λ command. refl))
+step-comes desk (Doc q) =
+    inl (question-stays desk (Doc q) q.clerk
+    (asks_document (question_doc desk.setting.config q)) _ _
+    (document_answer desk.serial (question_doc desk.setting.config q)) (λ command. refl))

@@ -1,329 +1,80 @@
--- Worked rows of the desk machine, computed from its definitions.
-use Rattle.std.proofs.Common.{◌≡◌, ℕ, pos, true, false, Some, None, List, [], ◌∷◌, refl, codes, map}
-use Rattle.std.proofs.Common.{unwrap_or, slice_get, Result, Ok, Err}
+-- Worked rows of the desk machine: a first day, clerks and their numbers, and the serial machine.
+use Rattle.std.proofs.Common.{◌≡◌, ℕ, pos, true, false, Some, None, List, [], ◌∷◌, refl}
+use Rattle.std.proofs.Common.{ap, codes, map, Result, Ok, Err}
+use Rattle.std.specs.Str.{bytes_eq}
 use Rattle.reg_base.specs.declared.value.Value.TheVariants.{Code}
-use Rattle.reg_base.specs.declared.records.Mark.{Mark}
-use Rattle.reg_base.specs.declared.records.Mark.TheVariants.{Receipt, Expense, Turn}
 use Rattle.reg_base.specs.declared.records.DocState.TheVariants.{Posted}
-use Rattle.reg_base.specs.declared.cut.Cut.{Cut}
 use Rattle.reg_base.specs.declared.cut.Cut.TheVariants.{BeforeDate, ThroughDate}
-use Rattle.reg_base.specs.Codes.{is_code}
-use Rattle.reg_base.specs.Rights.{right_word}
 use Rattle.reg_base.specs.declared.right.Right.TheVariants.{Manual as ManualRight, Read}
+use Rattle.reg_base.specs.Balances.{sum_rows}
+use Rattle.reg_base.specs.Codes.{is_code}
 use Rattle.reg_base.specs.Numbers.{parse_num, digits_from, decimals_from, last_digits_from}
 use Rattle.reg_base.specs.Numbers.{units_of}
+use Rattle.reg_base.specs.Rights.{right_word}
 use Rattle.reg_base.specs.Results.{◌>>=◌}
-use Rattle.reg_base.specs.Balances.{sum_rows}
 use Rattle.desk_words.specs.declared.request.Request.{Request}
-use Rattle.desk_words.specs.declared.request.Request.TheVariants.{Manual, Balance}
-use Rattle.desk_words.specs.declared.request.SetText.{SetText}
-use Rattle.desk_words.specs.declared.request.RecordText.{RecordText}
-use Rattle.desk_words.specs.declared.request.RecordText.TheVariants.{Register as InRegister}
-use Rattle.desk_words.specs.declared.request.RecordText.TheVariants.{Ledger as InLedger}
+use Rattle.desk_words.specs.declared.request.Request.TheVariants.{Balance}
 use Rattle.desk_words.specs.declared.reply.Reply.TheVariants.{Done, Refused}
 use Rattle.desk_words.specs.declared.reply.Acknowledgement.TheVariants.{Document as DocumentStands}
-use Rattle.desk_words.specs.declared.reply.Answer.TheVariants.{Acknowledged}
 use Rattle.desk_words.specs.declared.reply.Answer.TheVariants.{Balance as BalanceAnswer}
+use Rattle.desk_words.specs.declared.reply.Field.TheVariants.{Register as RegisterField}
 use Rattle.desk_words.specs.declared.reply.Refusal.TheVariants.{UnknownClerk, NotAllowed, Stale}
-use Rattle.desk_words.specs.declared.reply.Refusal.TheVariants.{NumberReused, BadField, Limit}
-use Rattle.desk_words.specs.declared.reply.Limit.TheVariants.{Numbers}
-use Rattle.desk_words.specs.declared.reply.Field.TheVariants.{Space, Values, Sums, Kind}
+use Rattle.desk_words.specs.declared.reply.Refusal.TheVariants.{NumberReused}
+use Rattle.desk_words.specs.RequestTexts.{request_text}
+use Rattle.desk_model.specs.declared.last.Last.{Last}
 use Rattle.desk_model.specs.State.{Setting, Desk, first_state, first_desk}
-use Rattle.desk_model.specs.Manuals.{record_in_register, given_record, space_of, set_records}
-use Rattle.desk_model.specs.Manuals.{given_sets, plan_manual}
+use Rattle.desk_model.specs.Stops.{Stop, refuses, repeats}
+use Rattle.desk_model.specs.LastRequests.{same_number, number_test}
+use Rattle.desk_model.specs.Manuals.{space_of, given_set, given_sets, plan_manual}
+use Rattle.desk_model.specs.GivenRecords.{record_in_register, given_record}
+use Rattle.desk_model.specs.RecordSets.{record_set}
 use Rattle.desk_model.specs.Questions.{question_balance}
-use Rattle.desk_model.specs.RecordSets.{record_set, record_sets}
+use Rattle.desk_model.specs.Limits.{limits_of}
 use Rattle.desk_model.specs.Effects.{Effect}
 use Rattle.desk_model.specs.Serial.{plan_effect, change_effect, question_answer}
 use Rattle.desk_model.specs.Serial.{question_effect, effect_of, SerialFault, bad_number, serial}
 use Rattle.desk_model.specs.Desk.{step}
-use Rattle.desk_model.specs.declared.last.Last.{Last}
-use Rattle.desk_model.specs.Stops.{Stop, refuses, repeats}
-use Rattle.desk_model.specs.LastRequests.{number_test}
+use Rattle.desk_model.proofs.RepeatLemmas.{step-same_number, same_number-same}
+use Rattle.desk_model.proofs.RowBooks.{shop, empty, morning, fifteenth, manual_at, nails_under}
+use Rattle.desk_model.proofs.RowBooks.{goods_at, stands, bad_field, replies, after}
 
--- a register of goods by item, with a quantity of three decimals and an amount of two, and one
--- clerk
-shop : Setting
-shop = record {
-  config = record {
-    registers = record {
-      name = codes "goods";
-      balance = true;
-      dimensions = record { name = codes "item"; lot = false } ∷ [];
-      resources = record { name = codes "quantity"; scale = 3 } ∷ record
-          { name = codes "amount"; scale = 2 } ∷ [];
-      split = false;
-    } ∷ [];
-    ledgers = record { name = codes "main"; scale = 2; split = false; accounts = [] } ∷ [];
-    kinds = [];
-    sequences = [];
-    clerks = record { name = codes "anna"; rights = ManualRight ∷ Read ∷ [] } ∷ [];
-  };
-}
+-- ---- a first day
 
--- 2024-01-10T09:00:00
-morning : ℕ
-morning = 758_192_400
+-- a receipt of ten nails is posted; before its date it is no row, and through its date it is one
+first_day : replies empty
+    (nails_under 1 ∷ goods_at (Some (BeforeDate morning)) ∷ goods_at (Some (ThroughDate morning))
+    ∷ nails_under 2 ∷ [])
+    ≡ stands true 1 Posted ∷ Done (BalanceAnswer [] (3 ∷ 2 ∷ []))
+    ∷ Done (BalanceAnswer (record {
+      group = Code (codes "nail") ∷ [];
+      sums = pos 10_000 ∷ pos 5_000 ∷ [];
+    } ∷ []) (3 ∷ 2 ∷ [])) ∷ stands true 2 Posted ∷ []
+unfolding step effect_of change_effect plan_effect limits_of right_word
+    plan_manual given_sets given_set space_of given_record record_in_register record_set is_code
+    parse_num digits_from decimals_from last_digits_from units_of
+    question_effect question_answer question_balance sum_rows
+first_day = refl
 
-of_register : Mark → List (List ℕ) → List (List ℕ) → RecordText
-of_register mark values sums = InRegister (record { mark = mark; sums = sums; values = values })
-
-manual : ℕ → List SetText → Request
-manual nr sets = Manual (record {
-  clerk = codes "anna";
-  no = nr;
-  doc = None;
-  key = None;
-  date = morning;
-  sets = sets;
-  comment = None;
+-- a balance of a register, as a clerk asks for it
+balance_of_clerk : List ℕ → List ℕ → Request
+balance_of_clerk clerk register = Balance (record {
+  clerk = clerk;
+  register = register;
+  filter = None;
+  group = None;
+  cut = None;
   tx = None;
 })
 
-into_goods : List RecordText → Request
-into_goods records = manual 1 (record { space = codes "goods"; records = records } ∷ [])
-
-balance : List ℕ → Cut → Request
-balance clerk cut = Balance
-    (record {
-      clerk = clerk;
-      register = codes "goods";
-      filter = None;
-      group = None;
-      cut = Some cut;
-      tx = None;
-    })
-
-nails_under : ℕ → Request
-nails_under nr = manual nr (record {
-  space = codes "goods";
-  records = of_register Receipt (codes "nail" ∷ [])
-      (codes "10.000" ∷ codes "50.00" ∷ []) ∷ [];
-} ∷ [])
-
-nails : Request
-nails = nails_under 1
-
--- the lines of the records in the first register, by document
-map_lines : Desk → List (List ℕ)
-map_lines desk = map (λ d. map (λ r. r.line) (unwrap_or (slice_get d.sets.registers 0) []))
-    desk.serial.documents
-
-empty : Desk
-empty = first_desk shop
-
--- the greatest number and the numbers of the documents that an effect leaves
-numbers : Result Effect SerialFault → List ℕ
-numbers (Ok effect) = effect.state.top ∷ map (λ d. d.doc.number) effect.state.documents
-numbers (Err fault) = []
-
-after_nails : Desk
-after_nails = (step empty nails).desk
-
--- the first document gets number 1
-receipt_is_posted : (step empty nails).reply ≡ Done (Acknowledged (DocumentStands true 1 Posted))
-unfolding step effect_of change_effect plan_effect question_answer question_effect record_set
-    record_sets
-    plan_manual given_sets set_records space_of given_record record_in_register question_balance
-    sum_rows is_code right_word parse_num digits_from decimals_from last_digits_from units_of shop morning
-    of_register manual into_goods balance nails_under nails empty after_nails map_lines
-receipt_is_posted = refl
-
--- before its date the receipt is no row
-no_row_before : (step after_nails (balance (codes "anna") (BeforeDate morning))).reply ≡ Done
-    (BalanceAnswer [] (3 ∷ 2 ∷ []))
-unfolding step effect_of change_effect plan_effect question_answer question_effect record_set
-    record_sets
-    plan_manual given_sets set_records space_of given_record record_in_register question_balance
-    sum_rows is_code right_word parse_num digits_from decimals_from last_digits_from units_of shop morning
-    of_register manual into_goods balance nails_under nails empty after_nails map_lines
-no_row_before = refl
-
--- through its date it is one row
-one_row_through : (step after_nails (balance (codes "anna") (ThroughDate morning))).reply ≡ Done
-    (BalanceAnswer (record { group = Code (codes "nail") ∷ []; sums = pos 10_000 ∷ pos 5_000 ∷ [] }
-    ∷ []) (3 ∷ 2 ∷ []))
-unfolding step effect_of change_effect plan_effect question_answer question_effect record_set
-    record_sets
-    plan_manual given_sets set_records space_of given_record record_in_register question_balance
-    sum_rows is_code right_word parse_num digits_from decimals_from last_digits_from units_of shop morning
-    of_register manual into_goods balance nails_under nails empty after_nails map_lines
-one_row_through = refl
-
--- the second document gets number 2
-next_number : (step after_nails (nails_under 2)).reply ≡ Done (Acknowledged (DocumentStands true 2 Posted))
-unfolding step effect_of change_effect plan_effect question_answer question_effect record_set
-    record_sets
-    plan_manual given_sets set_records space_of given_record record_in_register question_balance
-    sum_rows is_code right_word parse_num digits_from decimals_from last_digits_from units_of shop morning
-    of_register manual into_goods balance nails_under nails empty after_nails map_lines
-next_number = refl
-
--- a clerk that is not there is refused
-unknown_clerk : (step after_nails (balance (codes "zoe") (BeforeDate morning))).reply ≡ Refused
-    UnknownClerk
-unfolding step effect_of change_effect plan_effect question_answer question_effect record_set
-    record_sets
-    plan_manual given_sets set_records space_of given_record record_in_register question_balance
-    sum_rows is_code right_word parse_num digits_from decimals_from last_digits_from units_of shop morning
-    of_register manual into_goods balance nails_under nails empty after_nails map_lines
-unknown_clerk = refl
-
--- a space that is not there is refused, and the desk stays
-unknown_space : step after_nails
-    (manual 2 (record { space = codes "stock"; records = [] } ∷ [])) ≡ record
-    { reply = Refused (BadField Space); desk = after_nails; commits = [] }
-unfolding step effect_of change_effect plan_effect question_answer question_effect record_set
-    record_sets
-    plan_manual given_sets set_records space_of given_record record_in_register question_balance
-    sum_rows is_code right_word parse_num digits_from decimals_from last_digits_from units_of shop morning
-    of_register manual into_goods balance nails_under nails empty after_nails map_lines
-unknown_space = refl
-
--- a space that stands twice is refused
-space_twice : (step empty
-    (manual 1 (record { space = codes "goods"; records = [] } ∷ record
-    { space = codes "goods"; records = [] } ∷ []))).reply ≡ Refused (BadField Space)
-unfolding step effect_of change_effect plan_effect question_answer question_effect record_set
-    record_sets
-    plan_manual given_sets set_records space_of given_record record_in_register question_balance
-    sum_rows is_code right_word parse_num digits_from decimals_from last_digits_from units_of shop morning
-    of_register manual into_goods balance nails_under nails empty after_nails map_lines
-space_twice = refl
-
--- a value that is no code is refused before a wrong sum
-wrong_value : (step empty
-    (into_goods (of_register Receipt (codes "a b" ∷ []) (codes "x" ∷ []) ∷ []))).reply ≡ Refused
-    (BadField Values)
-unfolding step effect_of change_effect plan_effect question_answer question_effect record_set
-    record_sets
-    plan_manual given_sets set_records space_of given_record record_in_register question_balance
-    sum_rows is_code right_word parse_num digits_from decimals_from last_digits_from units_of shop morning
-    of_register manual into_goods balance nails_under nails empty after_nails map_lines
-wrong_value = refl
-
--- a number with too many decimals is refused before a wrong mark
-wrong_sum : (step empty (into_goods
-    (of_register Turn (codes "nail" ∷ []) (codes "1.0001" ∷ codes "0" ∷ []) ∷ []))).reply ≡ Refused
-    (BadField Sums)
-unfolding step effect_of change_effect plan_effect question_answer question_effect record_set
-    record_sets
-    plan_manual given_sets set_records space_of given_record record_in_register question_balance
-    sum_rows is_code right_word parse_num digits_from decimals_from last_digits_from units_of shop morning
-    of_register manual into_goods balance nails_under nails empty after_nails map_lines
-wrong_sum = refl
-
--- a turn is no record of a register with balances
-wrong_kind : (step empty (into_goods
-    (of_register Turn (codes "nail" ∷ []) (codes "1" ∷ codes "0" ∷ []) ∷ []))).reply ≡ Refused
-    (BadField Kind)
-unfolding step effect_of change_effect plan_effect question_answer question_effect record_set
-    record_sets
-    plan_manual given_sets set_records space_of given_record record_in_register question_balance
-    sum_rows is_code right_word parse_num digits_from decimals_from last_digits_from units_of shop morning
-    of_register manual into_goods balance nails_under nails empty after_nails map_lines
-wrong_kind = refl
-
--- a record of a ledger is refused in a register
-ledger_form : (step empty
-    (into_goods (InLedger (record { amount = codes "1"; debit = None; credit = None }) ∷ []))).reply
-    ≡ Refused (BadField Values)
-unfolding step effect_of change_effect plan_effect question_answer question_effect record_set
-    record_sets
-    plan_manual given_sets set_records space_of given_record record_in_register question_balance
-    sum_rows is_code right_word parse_num digits_from decimals_from last_digits_from units_of shop morning
-    of_register manual into_goods balance nails_under nails empty after_nails map_lines
-ledger_form = refl
-
--- where the greatest number was drawn no document is made
-no_number_left : (step (record empty { serial = record first_state { top = 4_294_967_295 } })
-    nails).reply ≡ Refused (Limit Numbers 4_294_967_295)
-unfolding step effect_of change_effect plan_effect question_answer question_effect record_set
-    record_sets
-    plan_manual given_sets set_records space_of given_record record_in_register question_balance
-    sum_rows is_code right_word parse_num digits_from decimals_from last_digits_from units_of shop morning
-    of_register manual into_goods balance nails_under nails empty after_nails map_lines
-no_number_left = refl
-
--- a record of zeros is not made, and takes no line
-zeros_are_not_made : map_lines
-    (step empty (into_goods (of_register Receipt (codes "nail" ∷ [])
-    (codes "0" ∷ codes "0.00" ∷ []) ∷ of_register Expense (codes "bolt" ∷ [])
-    (codes "-1" ∷ codes "0" ∷ []) ∷ []))).desk ≡ (1 ∷ []) ∷ []
-unfolding step effect_of change_effect plan_effect question_answer question_effect record_set
-    record_sets
-    plan_manual given_sets set_records space_of given_record record_in_register question_balance
-    sum_rows is_code right_word parse_num digits_from decimals_from last_digits_from units_of shop morning
-    of_register manual into_goods balance nails_under nails empty after_nails map_lines
-zeros_are_not_made = refl
-
--- a document has a list of entries for each ledger
-ledgers_are_there : map (λ d. d.sets.ledgers) after_nails.serial.documents ≡ ([] ∷ []) ∷ []
-unfolding numbers step serial effect_of change_effect plan_effect question_answer question_effect
-    record_set
-    record_sets plan_manual given_sets set_records space_of given_record record_in_register
-    question_balance sum_rows is_code right_word parse_num digits_from decimals_from last_digits_from units_of
-    shop morning of_register manual into_goods balance nails_under nails empty after_nails map_lines
-ledgers_are_there = refl
-
--- what a step commits is the request under its number
-commits : (step after_nails (nails_under 2)).commits
-    ≡ (record { number = 2; request = nails_under 2 } ∷ []) ∷ []
-unfolding numbers step serial effect_of change_effect plan_effect question_answer question_effect
-    record_set
-    record_sets plan_manual given_sets set_records space_of given_record record_in_register
-    question_balance sum_rows is_code right_word parse_num digits_from decimals_from last_digits_from units_of
-    shop morning of_register manual into_goods balance nails_under nails empty after_nails map_lines
-commits = refl
-
--- the serial machine takes numbers in any order, and keeps the greatest: here 2 before 1
-second_first : numbers (serial shop first_state
-    (record { number = 2; request = nails }) >>= λ e. serial shop e.state
-    (record { number = 1; request = nails })) ≡ 2 ∷ 1 ∷ 2 ∷ []
-unfolding numbers step serial effect_of change_effect plan_effect question_answer question_effect
-    record_set
-    record_sets plan_manual given_sets set_records space_of given_record record_in_register
-    question_balance sum_rows is_code right_word parse_num digits_from decimals_from last_digits_from units_of
-    shop morning of_register manual into_goods balance nails_under nails empty after_nails map_lines
-second_first = refl
-
--- it takes no number twice, and none but 0 for a request that draws none
-taken : serial shop after_nails.serial (record { number = 1; request = nails }) ≡ Err bad_number
-unfolding numbers step serial effect_of change_effect plan_effect question_answer question_effect
-    record_set
-    record_sets plan_manual given_sets set_records space_of given_record record_in_register
-    question_balance sum_rows is_code right_word parse_num digits_from decimals_from last_digits_from units_of
-    shop morning of_register manual into_goods balance nails_under nails empty after_nails map_lines
-taken = refl
-
-not_drawn : serial shop first_state (record { number = 0; request = nails }) ≡ Err bad_number
-unfolding numbers step serial effect_of change_effect plan_effect question_answer question_effect
-    record_set
-    record_sets plan_manual given_sets set_records space_of given_record record_in_register
-    question_balance sum_rows is_code right_word parse_num digits_from decimals_from last_digits_from units_of
-    shop morning of_register manual into_goods balance nails_under nails empty after_nails map_lines
-not_drawn = refl
-
-drawn_for_a_question : serial shop first_state
-    (record { number = 1; request = balance (codes "anna") (BeforeDate morning) }) ≡ Err bad_number
-unfolding numbers step serial effect_of change_effect plan_effect question_answer question_effect
-    record_set
-    record_sets plan_manual given_sets set_records space_of given_record record_in_register
-    question_balance sum_rows is_code right_word parse_num digits_from decimals_from last_digits_from units_of
-    shop morning of_register manual into_goods balance nails_under nails empty after_nails map_lines
-drawn_for_a_question = refl
-
--- it knows no limit: a number above the greatest one that a desk draws is taken
-no_limit : numbers (serial shop first_state
-    (record { number = 4_294_967_296; request = nails })) ≡ 4_294_967_296 ∷ 4_294_967_296 ∷ []
-unfolding numbers step serial effect_of change_effect plan_effect question_answer question_effect
-    record_set
-    record_sets plan_manual given_sets set_records space_of given_record record_in_register
-    question_balance sum_rows is_code right_word parse_num digits_from decimals_from last_digits_from units_of
-    shop morning of_register manual into_goods balance nails_under nails empty after_nails map_lines
-no_limit = refl
-
--- ---- numbers
+-- a clerk that is not there is refused, and so is a register without balances
+refused_questions : replies empty
+    (balance_of_clerk (codes "zoe") (codes "goods")
+    ∷ balance_of_clerk (codes "anna") (codes "sales")
+    ∷ balance_of_clerk (codes "anna") (codes "main") ∷ [])
+    ≡ Refused UnknownClerk ∷ bad_field RegisterField ∷ bad_field RegisterField ∷ []
+unfolding step effect_of right_word question_effect question_answer question_balance
+    balance_of_clerk
+refused_questions = refl
 
 -- without its right a clerk may not
 barred : Setting
@@ -333,10 +84,44 @@ barred = record shop {
   };
 }
 
-not_allowed : (step (first_desk barred) (balance (codes "anna") (BeforeDate morning))).reply
-    ≡ Refused (NotAllowed Read)
-unfolding step effect_of barred shop morning balance right_word
+not_allowed : replies (first_desk barred) (goods_at None ∷ []) ≡ Refused (NotAllowed Read) ∷ []
+unfolding step effect_of right_word barred
 not_allowed = refl
+
+-- ---- numbers of a clerk
+
+-- two requests that were accepted
+two : Desk
+two = after empty (nails_under 1 ∷ nails_under 2 ∷ [])
+
+-- the second one again is given the same reply, and leaves the desk as it is
+second_again : (step two (nails_under 2)).reply ≡ stands true 2 Posted
+unfolding step effect_of change_effect plan_effect limits_of right_word two
+    plan_manual given_sets given_set space_of given_record record_in_register record_set is_code
+    parse_num digits_from decimals_from last_digits_from units_of
+second_again = step-same_number two (nails_under 2) _ 2 (repeats (DocumentStands true 2 Posted))
+    refl refl refl refl refl
+    (same_number-same (request_text (nails_under 2)) (DocumentStands true 2 Posted))
+
+-- another request under its number is refused: its text is another one
+later : Request
+later = manual_at 2 None None fifteenth []
+
+number_reused : bytes_eq (request_text later) (request_text (nails_under 2)) ≡ false →
+    (step two later).reply ≡ Refused NumberReused
+unfolding step effect_of change_effect plan_effect limits_of right_word two later
+    plan_manual given_sets given_set space_of given_record record_in_register record_set is_code
+    parse_num digits_from decimals_from last_digits_from units_of
+number_reused differs = step-same_number two later _ 2 (refuses NumberReused)
+    refl refl refl refl refl (ap (λ b. same_number b (DocumentStands true 2 Posted)) differs)
+
+-- a number below the last one is stale, whatever its request
+stale : replies two (nails_under 1 ∷ manual_at 1 None None fifteenth [] ∷ [])
+    ≡ Refused (Stale 2) ∷ Refused (Stale 2) ∷ []
+unfolding step effect_of change_effect plan_effect limits_of right_word two
+    plan_manual given_sets given_set space_of given_record record_in_register record_set is_code
+    parse_num digits_from decimals_from last_digits_from units_of
+stale = refl
 
 -- what a number says where the clerk's last one was 2, of this text
 last_was_two : Last
@@ -372,11 +157,72 @@ of_another : number_test (last_was_two ∷ []) (codes "boris") (Some 1) (codes "
 unfolding last_was_two
 of_another = refl
 
--- a request that was accepted is its clerk's last
-kept : map (λ l. l.number) (step after_nails (nails_under 4)).desk.serial.lasts ≡ 4 ∷ []
-unfolding step effect_of change_effect plan_effect question_answer question_effect record_set
-    record_sets
-    plan_manual given_sets set_records space_of given_record record_in_register question_balance
-    sum_rows is_code right_word parse_num digits_from decimals_from last_digits_from units_of shop
-    morning of_register manual into_goods balance nails_under nails empty after_nails map_lines
+-- a request that was accepted is its clerk's last, and one that was refused is not
+kept : map (λ l. l.number) (after empty
+    (nails_under 4 ∷ manual_at 5 (Some 9) None morning [] ∷ [])).serial.lasts ≡ 4 ∷ []
+unfolding step effect_of change_effect plan_effect limits_of right_word
+    plan_manual given_sets given_set space_of given_record record_in_register record_set is_code
+    parse_num digits_from decimals_from last_digits_from units_of
 kept = refl
+
+-- ---- the serial machine
+
+-- the desk behind the first day
+after_nails : Desk
+after_nails = after empty (nails_under 1 ∷ [])
+
+-- what a step commits is the request under its number
+commits : (step after_nails (nails_under 2)).commits
+    ≡ (record { number = 2; request = nails_under 2 } ∷ []) ∷ []
+unfolding step effect_of change_effect plan_effect limits_of right_word after_nails
+    plan_manual given_sets given_set space_of given_record record_in_register record_set is_code
+    parse_num digits_from decimals_from last_digits_from units_of
+commits = refl
+
+-- the numbers of an effect's documents, and the greatest that there was
+numbers : Result Effect SerialFault → List ℕ
+numbers (Ok effect) = effect.state.top ∷ map (λ d. d.doc.number) effect.state.documents
+numbers (Err fault) = []
+
+-- the serial machine takes numbers in any order, and keeps the greatest: here 2 before 1
+second_first : numbers (serial shop first_state
+    (record { number = 2; request = nails_under 1 }) >>= λ e. serial shop e.state
+    (record { number = 1; request = nails_under 1 })) ≡ 2 ∷ 1 ∷ 2 ∷ []
+unfolding step effect_of change_effect plan_effect limits_of right_word numbers serial
+    plan_manual given_sets given_set space_of given_record record_in_register record_set is_code
+    parse_num digits_from decimals_from last_digits_from units_of
+second_first = refl
+
+-- it takes no number twice, and none but 0 for a request that draws none
+taken : serial shop after_nails.serial (record { number = 1; request = nails_under 1 })
+    ≡ Err bad_number
+unfolding step effect_of change_effect plan_effect limits_of right_word serial after_nails
+    plan_manual given_sets given_set space_of given_record record_in_register record_set is_code
+    parse_num digits_from decimals_from last_digits_from units_of
+taken = refl
+
+not_drawn : serial shop first_state (record { number = 0; request = nails_under 1 })
+    ≡ Err bad_number
+unfolding serial
+not_drawn = refl
+
+drawn_for_a_question : serial shop first_state (record { number = 1; request = goods_at None })
+    ≡ Err bad_number
+unfolding serial
+drawn_for_a_question = refl
+
+drawn_for_another : serial shop after_nails.serial
+    (record { number = 2; request = manual_at 2 (Some 1) None morning [] }) ≡ Err bad_number
+unfolding step effect_of change_effect plan_effect limits_of right_word serial after_nails
+    plan_manual given_sets given_set space_of given_record record_in_register record_set is_code
+    parse_num digits_from decimals_from last_digits_from units_of
+drawn_for_another = refl
+
+-- it knows no limit: a number above the greatest one that a desk draws is taken
+no_limit : numbers (serial shop first_state
+    (record { number = 4_294_967_296; request = nails_under 1 }))
+    ≡ 4_294_967_296 ∷ 4_294_967_296 ∷ []
+unfolding step effect_of change_effect plan_effect limits_of right_word numbers serial
+    plan_manual given_sets given_set space_of given_record record_in_register record_set is_code
+    parse_num digits_from decimals_from last_digits_from units_of
+no_limit = refl

@@ -1,41 +1,30 @@
 -- The desk machine: one request in, one reply out, the desk after.
-use Rattle.std.specs.Prelude.{ℕ, ◌+◌, Bool, true, false, nat_lt, if◌then◌else◌, List, [], ◌∷◌}
+use Rattle.std.specs.Prelude.{ℕ, ◌+◌, nat_lt, if◌then◌else◌, List, [], ◌∷◌}
 use Rattle.std.specs.Prelude.{Result, Ok, Err}
-use Rattle.reg_base.specs.Results.{unless}
 use Rattle.desk_words.specs.declared.request.Request.{Request}
 use Rattle.desk_words.specs.declared.reply.Reply.{Reply}
 use Rattle.desk_words.specs.declared.reply.Reply.TheVariants.{Done, Refused}
 use Rattle.desk_words.specs.declared.reply.Answer.TheVariants.{Acknowledged}
-use Rattle.desk_words.specs.declared.reply.Refusal.TheVariants.{Limit}
-use Rattle.desk_words.specs.declared.reply.Limit.TheVariants.{Numbers}
 use Rattle.desk_model.specs.State.{State, Desk, Command}
-use Rattle.desk_model.specs.Plans.{Deed, changes, asks_register, Meaning}
+use Rattle.desk_model.specs.Plans.{Deed, Meaning, changes, closes, asks_register, asks_document}
 use Rattle.desk_model.specs.Meanings.{meaning_of}
 use Rattle.desk_words.specs.RequestTexts.{request_text}
 use Rattle.desk_model.specs.Effects.{Effect, Tests}
 use Rattle.desk_model.specs.LastRequests.{number_test}
 use Rattle.desk_model.specs.Stops.{Stop, refuses, repeats}
+use Rattle.desk_model.specs.Limits.{greatest_number, limits_of}
 use Rattle.desk_model.specs.Serial.{effect_of, state_kept}
-
--- the greatest document number
-abbrev pub greatest_number : ℕ
-greatest_number = 4_294_967_295
-
--- a number is left to be drawn, where one is
-abbrev pub number_is_left : State → Bool → Bool
-number_is_left state true = nat_lt state.top greatest_number
-number_is_left state false = true
 
 -- the number that is drawn next, and 0 where none is left
 abbrev pub next_number : State → ℕ
 next_number state = if nat_lt state.top greatest_number then state.top + 1 else 0
 
--- what a desk asks besides the request itself, whose canonical text this is: its number, and behind
--- the plan its limits
+-- what a desk asks besides the request itself, whose canonical text this is: its number, and its
+-- limits
 abbrev pub tests_of : Desk → Meaning → List ℕ → Tests
 tests_of desk meaning text = record {
   number = number_test desk.serial.lasts meaning.clerk meaning.number text;
-  plan = λ plan. unless (number_is_left desk.serial meaning.draws) (Limit Numbers greatest_number);
+  limits = limits_of desk.serial;
 }
 
 -- what a request means at a desk
@@ -64,7 +53,9 @@ pub record Event : Type 0 where
 -- the commands that a deed commits: a change is an entry of its own
 abbrev pub commits_of : Deed → Command → List (List Command)
 commits_of (changes change) command = (command ∷ []) ∷ []
+commits_of (closes date) command = (command ∷ []) ∷ []
 commits_of (asks_register question) command = []
+commits_of (asks_document question) command = []
 
 -- the reply where a request goes no further
 abbrev pub reply_at : Stop → Reply

@@ -6,12 +6,14 @@ use Rattle.desk_words.specs.declared.reply.Answer.{Answer}
 use Rattle.desk_words.specs.declared.reply.Answer.TheVariants.{Acknowledged}
 use Rattle.desk_words.specs.declared.reply.Acknowledgement.{Acknowledgement}
 use Rattle.desk_words.specs.declared.reply.Acknowledgement.TheVariants.{Document as DocumentStands}
+use Rattle.desk_words.specs.declared.reply.Acknowledgement.TheVariants.{Closed, Swept}
 use Rattle.desk_words.specs.declared.reply.Refusal.{Refusal}
 use Rattle.desk_model.specs.State.{State}
 use Rattle.desk_model.specs.Stops.{Stop}
 use Rattle.reg_base.specs.Documents.{with_document, without_document}
 use Rattle.desk_model.specs.declared.plan.Source.{Source}
-use Rattle.desk_model.specs.declared.plan.Source.TheVariants.{ByHand}
+use Rattle.desk_model.specs.declared.plan.Source.TheVariants.{ByHand, Kept, Nothing, Removed}
+use Rattle.desk_model.specs.Plans.{Sight}
 use Rattle.desk_model.specs.declared.plan.Plan.{Plan}
 
 -- what a change does to one document: how it was and how it is, none where it is not there
@@ -26,16 +28,17 @@ pub record Effect : Type 0 where
   pub answer : Answer
 
 -- what a machine asks besides the request itself, and where: of the request's number, before what
--- it does is looked at; of a plan that was made, before its records are
+-- it does is looked at; and of a plan, with the document that its records make or why they can't be
+-- made, before that is answered
 pub record Tests : Type 0 where
   pub number : Result (Unit {0}) Stop
-  pub plan : Plan → Result (Unit {0}) Refusal
+  pub limits : Sight → Plan → Result (Option Document) Refusal → Result (Unit {0}) Refusal
 
 -- no tests
 abbrev pub no_tests : Tests
 no_tests = record {
   number = Ok tt;
-  plan = λ plan. Ok tt;
+  limits = λ sight plan made. Ok tt;
 }
 
 -- ---- effects of changes
@@ -53,9 +56,12 @@ state_with state number work = record state {
   top = max state.top number;
 }
 
--- how a changed document stands, as its change is acknowledged
+-- how a changed document stands, or that it is removed, as its change is acknowledged
 abbrev pub acknowledgement_of : Doc → Source → Acknowledgement
 acknowledgement_of doc (ByHand given) = DocumentStands doc.active doc.number doc.state
+acknowledgement_of doc Kept = DocumentStands doc.active doc.number doc.state
+acknowledgement_of doc Nothing = DocumentStands doc.active doc.number doc.state
+acknowledgement_of doc Removed = Swept doc.number
 
 -- what a change leaves: the state with its work, and how its document stands
 abbrev pub effect_with : State → ℕ → Plan → Work → Effect
@@ -63,4 +69,12 @@ effect_with state number plan work = record {
   state = state_with state number work;
   works = work ∷ [];
   answer = Acknowledged (acknowledgement_of plan.doc plan.source);
+}
+
+-- what it leaves that the books are closed before a date
+abbrev pub close_effect : State → ℕ → Effect
+close_effect state date = record {
+  state = record state { closed = date };
+  works = [];
+  answer = Acknowledged (Closed date);
 }

@@ -1,9 +1,8 @@
 -- What holds of every answer: an accepted balance is the sum over the records at its place, the
 -- numbers of a clerk rise and a repeat changes nothing, a refusal changes nothing, and what is
 -- accepted replays.
-use Rattle.std.specs.Prelude.{◌≡◌, ℕ, ◌≤◌, ◌<◌, ⊤, true, false, None, Some, Ok, unwrap_or, List, [], ◌∷◌}
-use Rattle.std.specs.Prelude.{◌++◌, All}
-use Rattle.std.specs.Prelude.{length, map, slice_get}
+use Rattle.std.specs.Prelude.{◌≡◌, ℕ, ◌≤◌, ◌<◌, ⊤, true, false, None, Some, Ok, unwrap_or}
+use Rattle.std.specs.Prelude.{List, [], ◌∷◌, ◌++◌, All, length, map, slice_get}
 use Rattle.reg_base.specs.declared.cut.Cut.TheVariants.{Now}
 use Rattle.reg_base.specs.declared.records.SumRow.{SumRow}
 use Rattle.reg_base.specs.declared.line.Line.{Line}

@@ -1,29 +1,73 @@
 -- What each request means under a configuration.
-use Rattle.std.specs.Prelude.{false, Some, None, is_none}
+use Rattle.std.specs.Prelude.{ℕ, false, Option, Some, None, is_none, List, Result}
 use Rattle.cfg_model.specs.declared.config.Config.{Config}
-use Rattle.reg_base.specs.declared.right.Right.TheVariants.{Manual as ManualRight, Read}
+use Rattle.reg_base.specs.declared.right.Right.{Right}
+use Rattle.reg_base.specs.declared.right.Right.TheVariants.{Write as WriteRight, Post as PostRight}
+use Rattle.reg_base.specs.declared.right.Right.TheVariants.{Manual as ManualRight, Read, Admin}
 use Rattle.desk_words.specs.declared.request.Request.{Request}
-use Rattle.desk_words.specs.declared.request.Request.TheVariants.{Manual, Balance}
-use Rattle.desk_model.specs.Plans.{Meaning, changes, asks_register}
+use Rattle.desk_words.specs.declared.request.Request.TheVariants.{Write, Mark, Manual, Activity}
+use Rattle.desk_words.specs.declared.request.Request.TheVariants.{Close, Sweep, Balance, Doc}
+use Rattle.desk_words.specs.declared.reply.Refusal.{Refusal}
+use Rattle.desk_model.specs.declared.plan.Plan.{Plan}
+use Rattle.desk_model.specs.Plans.{Sight, Deed, Meaning, changes, closes, asks_register}
+use Rattle.desk_model.specs.Plans.{asks_document}
+use Rattle.desk_model.specs.Writes.{plan_write}
 use Rattle.desk_model.specs.Manuals.{plan_manual}
-use Rattle.desk_model.specs.Questions.{question_balance}
+use Rattle.desk_model.specs.States.{plan_mark, plan_activity, plan_sweep}
+use Rattle.desk_model.specs.Questions.{question_balance, question_doc}
 
--- what a request means
-abbrev pub meaning_of : Config → Request → Meaning
-meaning_of config (Manual m) = record {
-  clerk = m.clerk;
-  right = ManualRight;
-  number = Some m.no;
-  draws = is_none m.doc;
+-- a change that makes a document, or gives the one that it names new content
+abbrev pub making : List ℕ → Right → ℕ → Option ℕ → Option (List ℕ) →
+    (Sight → Result Plan Refusal) → Meaning
+making clerk right number doc key plan = record {
+  clerk = clerk;
+  right = right;
+  number = Some number;
+  draws = is_none doc;
   deed = changes (record {
-    doc = m.doc;
-    plan = plan_manual config m;
+    doc = doc;
+    key = key;
+    plan = plan;
   });
 }
-meaning_of config (Balance b) = record {
-  clerk = b.clerk;
+
+-- a change of a document that there is
+abbrev pub changing : List ℕ → Right → ℕ → ℕ → (Sight → Result Plan Refusal) → Meaning
+changing clerk right number doc plan = record {
+  clerk = clerk;
+  right = right;
+  number = Some number;
+  draws = false;
+  deed = changes (record {
+    doc = Some doc;
+    key = None;
+    plan = plan;
+  });
+}
+
+-- a question, which has no number
+abbrev pub asking : List ℕ → Deed → Meaning
+asking clerk deed = record {
+  clerk = clerk;
   right = Read;
   number = None;
   draws = false;
-  deed = asks_register (question_balance config b);
+  deed = deed;
 }
+
+-- what a request means
+abbrev pub meaning_of : Config → Request → Meaning
+meaning_of config (Write w) = making w.clerk WriteRight w.no w.doc w.key (plan_write config w)
+meaning_of config (Mark m) = changing m.clerk PostRight m.no m.doc (plan_mark m)
+meaning_of config (Manual m) = making m.clerk ManualRight m.no m.doc m.key (plan_manual config m)
+meaning_of config (Activity m) = changing m.clerk ManualRight m.no m.doc (plan_activity m)
+meaning_of config (Close c) = record {
+  clerk = c.clerk;
+  right = Admin;
+  number = Some c.no;
+  draws = false;
+  deed = closes c.date;
+}
+meaning_of config (Sweep s) = changing s.clerk Admin s.no s.doc plan_sweep
+meaning_of config (Balance b) = asking b.clerk (asks_register (question_balance config b))
+meaning_of config (Doc q) = asking q.clerk (asks_document (question_doc config q))

@@ -1,4 +1,4 @@
--- What a request can mean: who asks, and a change of a document or a question.
+-- What a request can mean: who asks, and a change or a question.
 use Rattle.std.specs.Prelude.{ℕ, Bool, Option, List, Result}
 use Rattle.reg_base.specs.declared.records.Document.{Document}
 use Rattle.reg_base.specs.declared.records.Filter.{Filter}
@@ -8,27 +8,38 @@ use Rattle.desk_words.specs.declared.reply.Answer.{Answer}
 use Rattle.desk_words.specs.declared.reply.Refusal.{Refusal}
 use Rattle.desk_model.specs.declared.plan.Plan.{Plan}
 
--- what a change sees: the document that it names, where there is one, and the number that was drawn
--- for a new one
+-- what a change sees: the document that it names, the number of the document that has the key it
+-- gives, the date to which the books are closed, and the number drawn for a new document
 pub record Sight : Type 0 where
   pub before : Option Document
+  pub holder : Option ℕ
+  pub closed : ℕ
   pub drawn : ℕ
 
--- a change of a document: the number of the one that it names, and its plan or why there is none
+-- a change of a document: the number of the one that it names, the key that it gives, and its plan
+-- or why there is none
 pub record Change : Type 0 where
   pub doc : Option ℕ
+  pub key : Option (List ℕ)
   pub plan : Sight → Result Plan Refusal
 
--- a question: the register, which of its records are asked for, and what they answer
+-- a question about a register: which of its records are asked for, and what they answer
 pub record Question : Type 0 where
   pub register : ℕ
   pub asked : Filter
   pub answer : List Booked → Answer
 
--- what a request does
+-- a question about a document: its number, and what it answers
+pub record DocumentQuestion : Type 0 where
+  pub doc : ℕ
+  pub answer : Document → Answer
+
+-- what a request does: it changes a document, closes the books before a date, or asks
 pub data Deed : Type 0 where
   changes : Change → Deed
+  closes : ℕ → Deed
   asks_register : Result Question Refusal → Deed
+  asks_document : DocumentQuestion → Deed
 
 -- what a request means: who asks, by which right, under which request number, whether a document
 -- number is drawn for it, and what is to be done

@@ -1,54 +1,46 @@
 -- What a command does to the serial state, and the serial machine.
-use Rattle.std.specs.Prelude.{ℕ, ◌==◌, Bool, true, false, ◌&&◌, nat_lt, Option, Some, is_none}
+use Rattle.std.specs.Prelude.{ℕ, ◌==◌, Bool, true, false, ◌&&◌, nat_lt, is_none}
 use Rattle.std.specs.Prelude.{option_and_then, List, [], Result, Ok, Err}
-use Rattle.reg_base.specs.declared.records.Doc.{Doc}
-use Rattle.reg_base.specs.declared.records.Document.{Document}
-use Rattle.reg_base.specs.Results.{◌>>=◌, unless}
+use Rattle.reg_base.specs.Results.{◌>>=◌, unless, some_or}
 use Rattle.reg_base.specs.Records.{records_of, chosen_records}
 use Rattle.desk_words.specs.declared.reply.Answer.{Answer}
 use Rattle.desk_words.specs.declared.reply.Refusal.{Refusal}
 use Rattle.desk_words.specs.declared.reply.Refusal.TheVariants.{UnknownClerk, NotAllowed}
+use Rattle.desk_words.specs.declared.reply.Refusal.TheVariants.{UnknownDoc}
 use Rattle.desk_model.specs.State.{Setting, State, Command}
-use Rattle.reg_base.specs.Documents.{document_at}
+use Rattle.reg_base.specs.Documents.{document_at, holder_of}
 use Rattle.desk_model.specs.Effects.{Effect, Tests, no_tests}
 use Rattle.desk_model.specs.Stops.{Stop, refuses, or_stop}
-use Rattle.desk_model.specs.Effects.{effect_with}
-use Rattle.desk_model.specs.declared.plan.Source.{Source}
-use Rattle.desk_model.specs.declared.plan.Source.TheVariants.{ByHand}
+use Rattle.desk_model.specs.Effects.{effect_with, close_effect}
 use Rattle.desk_model.specs.declared.plan.Plan.{Plan}
-use Rattle.desk_model.specs.Plans.{Sight, Change, Question, Deed, changes, asks_register}
-use Rattle.desk_model.specs.Plans.{Meaning}
+use Rattle.desk_model.specs.Plans.{Sight, Change, Question, DocumentQuestion, Deed, Meaning}
+use Rattle.desk_model.specs.Plans.{changes, closes, asks_register, asks_document}
 use Rattle.desk_model.specs.Clerks.{is_clerk, is_allowed}
 use Rattle.desk_model.specs.LastRequests.{lasts_with}
-use Rattle.desk_model.specs.RecordSets.{record_sets}
+use Rattle.desk_model.specs.DocumentSets.{document_from}
 use Rattle.desk_model.specs.Meanings.{meaning_of}
 
--- ---- changes of documents
+-- ---- changes
 
 -- what a change sees of a state
 abbrev pub sight_of : State → ℕ → Change → Sight
 sight_of state number change = record {
   before = option_and_then (λ n. document_at n state.documents) change.doc;
+  holder = option_and_then (λ k. holder_of k state.documents) change.key;
+  closed = state.closed;
   drawn = number;
 }
 
--- the document that a plan leaves, with its records
-abbrev pub document_from : Setting → State → Doc → Source → Result (Option Document) Refusal
-document_from setting state doc (ByHand given) =
-    record_sets setting.config doc.date given >>= λ sets. Ok (Some (record {
-      doc = doc;
-      sets = sets;
-    }))
-
--- the effect of a plan, or its first refusal: the machine's tests are made, and then its records
+-- the effect of a plan, or its first refusal: the machine's limits are asked, and then whether its
+-- records can be made
 unfoldable pub plan_effect : Tests → Setting → State → ℕ → Sight → Plan → Result Effect Refusal
-plan_effect tests setting state number sight plan = do
-  _ ← tests.plan plan
-  after ← document_from setting state plan.doc plan.source
-  Ok (effect_with state number plan (record {
-    before = sight.before;
-    after = after;
-  }))
+plan_effect tests setting state number sight plan =
+    let made = document_from setting.config sight.before plan.doc plan.source in
+    tests.limits sight plan made >>= λ _. made >>= λ after. Ok
+    (effect_with state number plan (record {
+      before = sight.before;
+      after = after;
+    }))
 
 -- the effect of a change, or its first refusal
 unfoldable pub change_effect : Tests → Setting → State → ℕ → Change → Result Effect Refusal
@@ -58,21 +50,37 @@ change_effect tests setting state number change = do
 
 -- ---- questions
 
+-- the effect of a question that was answered: nothing changes
+abbrev pub answer_effect : State → Answer → Effect
+answer_effect state answer = record {
+  state = state;
+  works = [];
+  answer = answer;
+}
+
 -- what a question is answered, from the records that it asks for
 unfoldable pub question_answer : State → Result Question Refusal → Result Answer Refusal
 question_answer state question = do
   q ← question
   Ok (q.answer (chosen_records q.asked (records_of q.register state.documents)))
 
--- the effect of a question: nothing changes
+-- the effect of a question about a register
 unfoldable pub question_effect : State → Result Question Refusal → Result Effect Refusal
 question_effect state question = do
   answer ← question_answer state question
-  Ok (record {
-    state = state;
-    works = [];
-    answer = answer;
-  })
+  Ok (answer_effect state answer)
+
+-- what a question about a document is answered, where there is the document
+unfoldable pub document_answer : State → DocumentQuestion → Result Answer Refusal
+document_answer state q = do
+  d ← some_or (document_at q.doc state.documents) UnknownDoc
+  Ok (q.answer d)
+
+-- the effect of a question about a document
+unfoldable pub document_effect : State → DocumentQuestion → Result Effect Refusal
+document_effect state q = do
+  answer ← document_answer state q
+  Ok (answer_effect state answer)
 
 -- ---- commands
 
@@ -80,7 +88,9 @@ question_effect state question = do
 abbrev pub deed_effect : Tests → Setting → State → ℕ → Deed → Result Effect Refusal
 deed_effect tests setting state number (changes change) =
     change_effect tests setting state number change
+deed_effect tests setting state number (closes date) = Ok (close_effect state date)
 deed_effect tests setting state number (asks_register question) = question_effect state question
+deed_effect tests setting state number (asks_document question) = document_effect state question
 
 -- the effect of a command, or why it goes no further: there is such a clerk, who may do this, and
 -- his number is asked; and then its deed

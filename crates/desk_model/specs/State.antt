@@ -10,10 +10,11 @@ pub record Setting : Type 0 where
   pub config : Config
 
 -- the serial state: the documents in order of number, the greatest number that was ever committed,
--- and the last request of each clerk
+-- the date before which nothing changes any more, and the last request of each clerk
 pub record State : Type 0 where
   pub documents : List Document
   pub top : ℕ
+  pub closed : ℕ
   pub lasts : List Last
 
 -- a desk: its setting, and the serial state that is committed
@@ -26,11 +27,12 @@ pub record Command : Type 0 where
   pub number : ℕ
   pub request : Request
 
--- nothing was committed yet
+-- nothing was committed yet, and the books are open from the first date on
 abbrev pub first_state : State
 first_state = record {
   documents = [];
   top = 0;
+  closed = 0;
   lasts = [];
 }
 

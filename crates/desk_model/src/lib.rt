@@ -7,7 +7,8 @@
 //! Stands on: `cfg_model` for the configuration, `desk_words` for requests and replies,
 //! `reg_base` for documents, records and balances.
 //!
-//! Promises: the laws of `specs/Laws.antt`, each the contract of a function that does nothing.
+//! Promises: the laws of `specs/Laws.antt`, and that each number of a reply has its scale, as the
+//! contracts of functions that do nothing.
 //!
 //! Leaves open: how a desk keeps its documents; there is no other code here than plain types.
 #![tactic(auto)]
@@ -21,4 +22,4 @@ pub use laws::{
     accepted_requests_replay, balances_are_sums, refusals_change_nothing, replies_have_scales,
     requests_act_once,
 };
-pub use plan::{Given, Plan, Source};
+pub use plan::{Given, GivenEntry, GivenSet, Plan, Source, Space};

@@ -1,6 +1,7 @@
 //! The top call: what the words ask, on the objects that are handed in.
-ghost use Rattle.std.specs.Prelude.{◌≡◌, ◌↔◌, map, string_bytes};
+ghost use Rattle.std.specs.Prelude.{◌≡◌, ◌↔◌, map, string_bytes, IfOk};
 ghost use Rattle.cfg_model.specs.declared.config.Config.{Config};
+ghost use Rattle.cfg_model.specs.Limits.{IsWithinLimits};
 ghost use Rattle.desk_run.specs.Inputs.{desk_under};
 ghost use Rattle.desk_run.specs.Ends.{KeepsLaws, AskNothing, Ends, Finishes, HoldsConfig};
 ghost use Rattle.desk_run.specs.ConfigFiles.{ReadsConfig, shelf_of};
@@ -109,18 +110,19 @@ fn run_file<F: Shelf, S: Source, O: Sink>(
     Ok(())
 }
 
-// Runs the lines of the input at a desk that is desk with the configuration.
+// Runs the lines of the input at a desk that is opened with the configuration.
 fn run_config<S: Source, O: Sink>(
     alloc: Global,
     config: Config,
     input: &mut S,
     out: &mut O,
 ) -> Result<(), RunEnd>
+    requires limits { IsWithinLimits config }
     ensures runs { RunsWith config
         (streams_of S.left S.read_faults O.taken O.write_faults input.old out.old)
         (streams_of S.left S.read_faults O.taken O.write_faults input.new out.new) result }
 {
-    let mut desk = Desk::open(alloc, config);
+    let mut desk = Desk::open(alloc, config)?;
     run_lines(alloc, &mut desk, input, out)
 }
 
@@ -128,6 +130,7 @@ fn read_config<F: Shelf>(alloc: Global, name: &str, shelf: &mut F) -> Result<Con
     ensures reads { ReadsConfig name.now
         (shelf_of F.files F.faults shelf.old)
         (shelf_of F.files F.faults shelf.new) result }
+    ensures limits { IfOk result IsWithinLimits }
 {
     let bytes = shelf.read_file(alloc, name, MOST_CONFIG_BYTES)?;
     let config = Config::read(alloc, bytes.as_slice())?;

@@ -12,7 +12,7 @@ use std::test::Fail;
 
 fn desk(alloc: Global) -> Option<Desk> {
     let config = Config::read(alloc, SHOP.as_bytes()).ok()?;
-    Some(Desk::open(alloc, config))
+    Desk::open(alloc, config).ok()
 }
 
 // The text of the reply of a desk to a receipt.

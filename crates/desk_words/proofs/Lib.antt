@@ -5,7 +5,13 @@ pub mod JsonLemmas
 pub mod ReplyLemmas
 pub mod RequestLemmas
 mod PlainLemmas
+mod ShapesBack
+mod TextsBack
+mod DocumentsBack
 pub mod ReadBackLemmas
+mod ReadValues
+mod ShapeLemmas
 pub mod WellFormedLemmas
 mod WorkedRows
+mod WorkedRequests
 mod WorkedReplies

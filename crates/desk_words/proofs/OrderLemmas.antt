@@ -1,6 +1,6 @@
--- The members of an object that is read stand in byte order of their names, each once.
+-- In a value that is read the members of each object stand in byte order of their names, each once.
 use Rattle.std.proofs.Common.{◌≡◌, ℕ, Bool, true, false, cond, Option, Some, None, option_map}
-use Rattle.std.proofs.Common.{option_and_then, ◌==◌, length, List, refl, ap, ◌∙◌, subst}
+use Rattle.std.proofs.Common.{option_and_then, ◌==◌, length, List, IfSome, refl, ap, ◌∙◌, subst}
 use Rattle.std.proofs.Common.{Ordering, Less, Equal, Greater, nat_cmp}
 use Rattle.std.specs.Cmp.Lexicographic.{slice_cmp}
 use Rattle.std.specs.List.{AllByRecursion}
@@ -10,14 +10,14 @@ use Rattle.std.specs.Str.Lossy.{utf8_valid_len}
 use Rattle.std.proofs.lemmas.Cmp.{nat_list_cmp_total}
 use Rattle.json.specs.Json as json
 use Rattle.json.specs.Lex.{tokens}
-use Rattle.serde_json.specs.Data.{Num, number, Data, Items, array, Members, no_members, member}
-use Rattle.serde_json.specs.Data.{object, put}
+use Rattle.serde_json.specs.Data.{Num, Data, null, boolean, number, string, array, object}
+use Rattle.serde_json.specs.Data.{Items, no_items, item, Members, no_members, member, put}
 use Rattle.serde_json.specs.Read.{read, max_depth, of_json, of_items, of_members, number_of}
 use Rattle.desk_words.specs.Members.{member_names}
 use Rattle.desk_words.specs.Reading.{json_document}
 
 -- names that stand in byte order, each once
-abbrev Ascend : Members → Type 0
+abbrev pub Ascend : Members → Type 0
 Ascend ms = IsStrictlySortedBy (slice_cmp nat_cmp) (member_names ms)
 
 none_ascend : Ascend no_members
@@ -63,63 +63,111 @@ put-ascends k d (member l e ms) h =
       ih,
     )
 
--- members that go in one after another ascend
-of_members-ascend : (js : json.Members) (found ms : Members) → Ascend found
-    → of_members js found ≡ Some ms → Ascend ms
-of_members-ascend json.no_members found ms h e = subst Ascend (same found ms e) h
+-- the names of each object inside a value ascend
+abbrev mutual
+  pub NamesAscend : Data → Type 0
+  NamesAscend null = Unit {0}
+  NamesAscend (boolean b) = Unit {0}
+  NamesAscend (number n) = Unit {0}
+  NamesAscend (string s) = Unit {0}
+  NamesAscend (array ds) = ItemsAscend ds
+  NamesAscend (object ms) = Ascend ms × MembersAscend ms
+
+  pub ItemsAscend : Items → Type 0
+  ItemsAscend no_items = Unit {0}
+  ItemsAscend (item d ds) = NamesAscend d × ItemsAscend ds
+
+  pub MembersAscend : Members → Type 0
+  MembersAscend no_members = Unit {0}
+  MembersAscend (member k d ms) = NamesAscend d × MembersAscend ms
+
+put-each : (k : List ℕ) (d : Data) (ms : Members) → NamesAscend d → MembersAscend ms
+    → MembersAscend (put k d ms)
+put-each k d no_members is h = (is, tt)
+put-each k d (member l e ms) is h = at (put-each k d ms is h.1) (slice_cmp nat_cmp k l)
   where
-    same : (xs ys : Members) → Some xs ≡ Some ys → xs ≡ ys
-    same xs ys e = cc
-of_members-ascend (json.member k j js) found ms h e =
-    at (λ d. of_members-ascend js (put k d found) ms (put-ascends k d found h)) (of_json j) e
-  where
-    at : ((d : Data) → of_members js (put k d found) ≡ Some ms → Ascend ms)
-        → (value : Option Data)
-        → option_and_then (λ d. of_members js (put k d found)) value ≡ Some ms → Ascend ms
-    at ih None e = absurd (cc)
-    at ih (Some d) e = ih d e
+    at : MembersAscend (put k d ms) → (order : Ordering)
+        → MembersAscend (match_ordering order (member k d (member l e ms)) (member l d ms)
+        (member l e (put k d ms)))
+    at ih Less = (is, h)
+    at ih Equal = (is, h.1)
+    at ih Greater = (h.0, ih)
 
-number-apart : (n : Option Num) (ms : Members) → option_map number n ≡ Some (object ms) → ⊥
-number-apart None ms e = absurd (cc)
-number-apart (Some n) ms e = absurd (cc)
+abbrev AreInOrder : Members → Type 0
+AreInOrder ms = NamesAscend (object ms)
 
-array-apart : (ds : Option Items) (ms : Members) → option_map array ds ≡ Some (object ms) → ⊥
-array-apart None ms e = absurd (cc)
-array-apart (Some ds) ms e = absurd (cc)
+put-in_order : (k : List ℕ) (d : Data) (ms : Members) → NamesAscend d → AreInOrder ms
+    → AreInOrder (put k d ms)
+put-in_order k d ms is h = (put-ascends k d ms h.0, put-each k d ms is h.1)
 
-of_json-ascend : (j : json.Json) (ms : Members) → of_json j ≡ Some (object ms) → Ascend ms
-of_json-ascend json.null ms e = absurd (cc)
-of_json-ascend (json.boolean b) ms e = absurd (cc)
-of_json-ascend (json.number s) ms e = absurd (number-apart (number_of s) ms e)
-of_json-ascend (json.string s) ms e = absurd (cc)
-of_json-ascend (json.array js) ms e = absurd (array-apart (of_items js) ms e)
-of_json-ascend (json.object js) ms e = at (of_members js no_members) refl e
-  where
-    at : (made : Option Members) → of_members js no_members ≡ made
-        → option_map object made ≡ Some (object ms) → Ascend ms
-    at None is e = absurd (cc)
-    at (Some found) is e =
-        let same : found ≡ ms = cc in
-        subst Ascend same (of_members-ascend js no_members found none_ascend is)
+number-ascends : (n : Option Num) → IfSome (option_map number n) NamesAscend
+number-ascends None = tt
+number-ascends (Some n) = tt
 
-read-ascend : (value : Option json.Json) (ms : Members)
-    → option_and_then of_json value ≡ Some (object ms) → Ascend ms
-read-ascend None ms e = absurd (cc)
-read-ascend (Some j) ms e = of_json-ascend j ms e
+array-ascends : (ds : Option Items) → IfSome ds ItemsAscend
+    → IfSome (option_map array ds) NamesAscend
+array-ascends None h = tt
+array-ascends (Some ds) h = h
 
-text-ascends : (bytes : List ℕ) (ms : Members) → read bytes ≡ Some (object ms) → Ascend ms
-text-ascends bytes ms e =
-    read-ascend (option_and_then (λ p. json.if_last p.0 p.1) (json.value max_depth (tokens bytes)))
-    ms e
+object-ascends : (ms : Option Members) → IfSome ms AreInOrder
+    → IfSome (option_map object ms) NamesAscend
+object-ascends None h = tt
+object-ascends (Some ms) h = h
 
--- the members of an object that a line is read as ascend
-pub json_document-ascends : (bytes : List ℕ) (ms : Members)
-    → json_document bytes ≡ Some (object ms)
-    → IsStrictlySortedBy (slice_cmp nat_cmp) (member_names ms)
+more-ascends : (d : Data) (ds : Option Items) → NamesAscend d → IfSome ds ItemsAscend
+    → IfSome (option_map (item d) ds) ItemsAscend
+more-ascends d None is h = tt
+more-ascends d (Some ds) is h = (is, h)
+
+-- what has P leads to what has Q
+IfSome-and_then : {X Y : Type 0} (P : X → Type 0) (Q : Y → Type 0) (o : Option X)
+    (next : X → Option Y) → IfSome o P → ((x : X) → P x → IfSome (next x) Q)
+    → IfSome (option_and_then next o) Q
+IfSome-and_then P Q None next h then = tt
+IfSome-and_then P Q (Some x) next h then = then x h
+
+mutual
+  of_json-ascends : (j : json.Json) → IfSome (of_json j) NamesAscend
+  of_json-ascends json.null = tt
+  of_json-ascends (json.boolean b) = tt
+  of_json-ascends (json.number s) = number-ascends (number_of s)
+  of_json-ascends (json.string s) = tt
+  of_json-ascends (json.array js) = array-ascends (of_items js) (of_items-ascend js)
+  of_json-ascends (json.object js) =
+      object-ascends (of_members js no_members) (of_members-ascend js no_members (none_ascend, tt))
+
+  of_items-ascend : (js : json.Items) → IfSome (of_items js) ItemsAscend
+  of_items-ascend json.no_items = tt
+  of_items-ascend (json.item j js) =
+      IfSome-and_then NamesAscend ItemsAscend (of_json j) (λ d. option_map (item d) (of_items js))
+      (of_json-ascends j) (λ d is. more-ascends d (of_items js) is (of_items-ascend js))
+
+  of_members-ascend : (js : json.Members) (found : Members) → AreInOrder found
+      → IfSome (of_members js found) AreInOrder
+  of_members-ascend json.no_members found h = h
+  of_members-ascend (json.member k j js) found h =
+      IfSome-and_then NamesAscend AreInOrder (of_json j) (λ d. of_members js (put k d found))
+      (of_json-ascends j) (λ d is. of_members-ascend js (put k d found)
+      (put-in_order k d found is h))
+
+read-ascends : (value : Option json.Json) → IfSome (option_and_then of_json value) NamesAscend
+read-ascends None = tt
+read-ascends (Some j) = of_json-ascends j
+
+-- the names inside the value that a line is read as ascend
+pub json_document-ascends : (bytes : List ℕ) → IfSome (json_document bytes) NamesAscend
 unfolding json_document
-json_document-ascends bytes ms e = at (utf8_valid_len bytes == length bytes) e
+json_document-ascends bytes = at (utf8_valid_len bytes == length bytes)
   where
-    at : (test : Bool) → cond test (read bytes) None ≡ Some (object ms)
-        → IsStrictlySortedBy (slice_cmp nat_cmp) (member_names ms)
-    at true e = text-ascends bytes ms e
-    at false e = absurd (cc)
+    at : (test : Bool) → IfSome (cond test (read bytes) None) NamesAscend
+    at true = read-ascends
+        (option_and_then (λ p. json.if_last p.0 p.1) (json.value max_depth (tokens bytes)))
+    at false = tt
+
+-- so do the members of an object that a line is
+pub members-ascend : (bytes : List ℕ) (ms : Members) → json_document bytes ≡ Some (object ms)
+    → IsStrictlySortedBy (slice_cmp nat_cmp) (member_names ms)
+members-ascend bytes ms is =
+    let h : NamesAscend (object ms) =
+    subst (λ (o : Option Data). IfSome o NamesAscend) is (json_document-ascends bytes) in
+    h.0

@@ -1,23 +1,111 @@
--- The JSON of a request that a line can be is plain, and nests a few levels deep.
-use Rattle.std.proofs.Common.{ℕ, ◌≤◌, Option, Some, None, IfSome, List, [], ◌∷◌, map, IsUtf8, codes}
-use Rattle.std.proofs.Common.{refl, arith}
+-- The JSON of the parts of a request is plain, and nests a few levels deep.
+use Rattle.std.proofs.Common.{◌≡◌, ℕ, ◌≤◌, Bool, true, ◌&&◌, Option, Some, None, IfSome, option_map}
+use Rattle.std.proofs.Common.{List, [], ◌∷◌, map, IsUtf8, codes, refl, ap, ◌∙◌, arith}
+use Rattle.std.proofs.Common.{Ordering, Less, Equal, Greater, nat_cmp, is_gt}
+use Rattle.std.proofs.lemmas.Bool.{and_parts}
+use Rattle.std.proofs.lemmas.Cmp.{nat_list_cmp_total}
+use Rattle.std.specs.Cmp.Lexicographic.{slice_cmp}
 use Rattle.std.specs.List.{AllByRecursion}
-use Rattle.serde_json.specs.Data.{Data, string, depth, items_depth}
+use Rattle.std.specs.Ordering.{match_ordering, ordering_reverse}
+use Rattle.serde_json.specs.Data.{Data, string, depth, items_depth, Members, no_members, member}
+use Rattle.serde_json.specs.Data.{put, members_depth}
 use Rattle.serde_json.specs.View.{items_of}
-use Rattle.json_laws.specs.Plain.{IsPlain, ItemsArePlain}
+use Rattle.json_laws.specs.Plain.{IsPlain, ItemsArePlain, MembersArePlain, stands_before}
 use Rattle.reg_base.specs.declared.records.Mark.{Mark}
 use Rattle.reg_base.specs.declared.records.Mark.TheVariants.{Receipt, Expense, Turn}
 use Rattle.reg_base.specs.declared.records.Side.{Side}
 use Rattle.reg_base.proofs.ForAbove.{IsUtf8-tested, IsUtf8-code, IsUtf8-name}
+use Rattle.desk_words.specs.declared.request.FieldText.{FieldText}
 use Rattle.desk_words.specs.declared.request.SetText.{SetText}
 use Rattle.desk_words.specs.declared.request.RecordText.{RecordText}
 use Rattle.desk_words.specs.declared.request.RecordText.TheVariants.{Register, Ledger}
-use Rattle.desk_words.specs.JsonValues.{texts_data}
+use Rattle.desk_words.specs.FieldTexts.{put_fields, fields_data, lines_data}
+use Rattle.desk_words.specs.JsonValues.{texts_data, put_if}
 use Rattle.desk_words.specs.RequestTexts.{mark_name, side_data, register_data, ledger_data}
 use Rattle.desk_words.specs.RequestTexts.{record_data, set_data, sets_data}
-use Rattle.desk_words.specs.WellFormed.{IsCode, IsSide, IsRecordText, IsSetText}
+use Rattle.desk_words.specs.WellFormed.{IsCode, IsSide, IsRecordText, IsSetText, IsFieldText}
+use Rattle.desk_words.specs.WellFormed.{AreFields}
+
+-- ---- members that are put in
+
+after_reverse : (k l : List ℕ) → slice_cmp nat_cmp k l ≡ Less → is_gt (slice_cmp nat_cmp l k) ≡ true
+after_reverse k l p = ap is_gt (nat_list_cmp_total.antisymm l k ∙ ap ordering_reverse p)
+
+both : (a b : Bool) → a ≡ true → b ≡ true → (a && b) ≡ true
+both a b p q = λ i. p i && q i
+
+is_gt-Greater : (o : Ordering) → is_gt o ≡ true → o ≡ Greater
+is_gt-Greater Less h = absurd cc
+is_gt-Greater Equal h = absurd cc
+is_gt-Greater Greater h = refl
+
+-- a name before one that stands before others stands before them
+stands_before-trans : (k l : List ℕ) (ms : Members) → slice_cmp nat_cmp k l ≡ Less
+    → stands_before l ms ≡ true → stands_before k ms ≡ true
+stands_before-trans k l no_members p h = refl
+stands_before-trans k l (member n d ms) p h =
+    let parts = and_parts (is_gt (slice_cmp nat_cmp n l)) (stands_before l ms) h in
+    let below : slice_cmp nat_cmp l n ≡ Less =
+    nat_list_cmp_total.antisymm l n ∙ ap ordering_reverse
+    (is_gt-Greater (slice_cmp nat_cmp n l) parts.0) in
+    both _ _ (after_reverse k n (nat_list_cmp_total.trans k l n p below))
+    (stands_before-trans k l ms p parts.1)
+
+stands_before-put : (l k : List ℕ) (d : Data) (ms : Members) → is_gt (slice_cmp nat_cmp k l) ≡ true
+    → stands_before l ms ≡ true → stands_before l (put k d ms) ≡ true
+stands_before-put l k d no_members p h = both _ _ p refl
+stands_before-put l k d (member n e ms) p h =
+    at (stands_before-put l k d ms p parts.1) (slice_cmp nat_cmp k n)
+  where
+    parts : (is_gt (slice_cmp nat_cmp n l) ≡ true) × (stands_before l ms ≡ true)
+    parts = and_parts (is_gt (slice_cmp nat_cmp n l)) (stands_before l ms) h
+
+    at : stands_before l (put k d ms) ≡ true → (order : Ordering)
+        → stands_before l (match_ordering order (member k d (member n e ms)) (member n d ms)
+        (member n e (put k d ms))) ≡ true
+    at ih Less = both _ _ p h
+    at ih Equal = h
+    at ih Greater = both _ _ parts.0 ih
+
+MembersArePlain-put : (k : List ℕ) (d : Data) (ms : Members) → IsUtf8 k → IsPlain d
+    → MembersArePlain ms → MembersArePlain (put k d ms)
+MembersArePlain-put k d no_members utf8 plain h = ((utf8, refl), plain, tt)
+MembersArePlain-put k d (member l e ms) utf8 plain h =
+    at (MembersArePlain-put k d ms utf8 plain h.2) (slice_cmp nat_cmp k l) refl
+  where
+    at : MembersArePlain (put k d ms) → (order : Ordering) → slice_cmp nat_cmp k l ≡ order
+        → MembersArePlain (match_ordering order (member k d (member l e ms)) (member l d ms)
+        (member l e (put k d ms)))
+    at ih Less p = (
+      (utf8, both _ _ (after_reverse k l p) (stands_before-trans k l ms p h.0.1)),
+      plain,
+      h,
+    )
+    at ih Equal p = (h.0, plain, h.2)
+    at ih Greater p = ((h.0.0, stands_before-put l k d ms (ap is_gt p) h.0.1), h.1, ih)
+
+-- members with one more in its place, where it is there
+pub MembersArePlain-put_if : {X : Type 0} (name : List ℕ) (data_of : X → Data) (P : X → Type 0)
+    → ((x : X) → P x → IsPlain (data_of x)) → IsUtf8 name → (o : Option X) → IfSome o P
+    → (ms : Members) → MembersArePlain ms
+    → MembersArePlain (put_if name (option_map data_of o) ms)
+MembersArePlain-put_if name data_of P plain utf8 None is ms h = h
+MembersArePlain-put_if name data_of P plain utf8 (Some x) is ms h =
+    MembersArePlain-put name (data_of x) ms utf8 (plain x is) h
 
 -- ---- plain values
+
+MembersArePlain-fields : (ms : Members) (fields : List FieldText) → MembersArePlain ms
+    → AllByRecursion IsFieldText fields → MembersArePlain (put_fields ms fields)
+MembersArePlain-fields ms [] h all = h
+MembersArePlain-fields ms (field ∷ fields) h all =
+    MembersArePlain-fields (put field.name (string field.text) ms) fields
+    (MembersArePlain-put field.name (string field.text) ms (IsUtf8-name field.name all.0.0)
+    all.0.1 h) all.1
+
+pub IsPlain-fields_data : (fields : List FieldText) → AreFields fields
+    → IsPlain (fields_data fields)
+IsPlain-fields_data fields h = MembersArePlain-fields no_members fields tt h.0
 
 ItemsArePlain-each : {X : Type 0} (data_of : X → Data) (P : X → Type 0)
     → ((x : X) → P x → IsPlain (data_of x)) → (xs : List X) → AllByRecursion P xs
@@ -82,7 +170,43 @@ pub IsPlain-sets_data : (sets : List SetText) → AllByRecursion IsSetText sets
 unfolding sets_data
 IsPlain-sets_data sets h = ItemsArePlain-each set_data IsSetText IsPlain-set_data sets h
 
+pub IsPlain-lines_data : (lines : List (List FieldText)) → AllByRecursion AreFields lines
+    → IsPlain (lines_data lines)
+unfolding lines_data
+IsPlain-lines_data lines h = ItemsArePlain-each fields_data AreFields IsPlain-fields_data lines h
+
 -- ---- how deep they nest
+
+members_depth-put : (most : ℕ) (k : List ℕ) (d : Data) (ms : Members) → depth d ≤ most
+    → members_depth ms ≤ most → members_depth (put k d ms) ≤ most
+members_depth-put most k d no_members p h = omega (arith, p)
+members_depth-put most k d (member l e ms) p h =
+    at (members_depth-put most k d ms p (omega (arith, h))) (slice_cmp nat_cmp k l)
+  where
+    at : members_depth (put k d ms) ≤ most → (order : Ordering)
+        → members_depth (match_ordering order (member k d (member l e ms)) (member l d ms)
+        (member l e (put k d ms))) ≤ most
+    at ih Less = omega (arith, p, h)
+    at ih Equal = omega (arith, p, h)
+    at ih Greater = omega (arith, h, ih)
+
+-- members with one more in its place, where it is there
+pub members_depth-put_if : {X : Type 0} (most : ℕ) (name : List ℕ) (data_of : X → Data)
+    → ((x : X) → depth (data_of x) ≤ most) → (o : Option X) (ms : Members)
+    → members_depth ms ≤ most → members_depth (put_if name (option_map data_of o) ms) ≤ most
+members_depth-put_if most name data_of shallow None ms h = h
+members_depth-put_if most name data_of shallow (Some x) ms h =
+    members_depth-put most name (data_of x) ms (shallow x) h
+
+members_depth-fields : (ms : Members) (fields : List FieldText) → members_depth ms ≤ 0
+    → members_depth (put_fields ms fields) ≤ 0
+members_depth-fields ms [] h = h
+members_depth-fields ms (field ∷ fields) h =
+    members_depth-fields (put field.name (string field.text) ms) fields
+    (members_depth-put 0 field.name (string field.text) ms (omega arith) h)
+
+pub depth-fields_data : (fields : List FieldText) → depth (fields_data fields) ≤ 1
+depth-fields_data fields = omega (arith, members_depth-fields no_members fields (omega arith))
 
 items_depth-each : {X : Type 0} (data_of : X → Data) (most : ℕ)
     → ((x : X) → depth (data_of x) ≤ most) → (xs : List X)
@@ -110,3 +234,7 @@ depth-set_data set = omega (arith, items_depth-each record_data 2 depth-record_d
 pub depth-sets_data : (sets : List SetText) → depth (sets_data sets) ≤ 5
 unfolding sets_data
 depth-sets_data sets = omega (arith, items_depth-each set_data 4 depth-set_data sets)
+
+pub depth-lines_data : (lines : List (List FieldText)) → depth (lines_data lines) ≤ 2
+unfolding lines_data
+depth-lines_data lines = omega (arith, items_depth-each fields_data 1 depth-fields_data lines)

@@ -1,172 +1,281 @@
 -- The canonical text of a request is read as that request.
-use Rattle.std.proofs.Common.{◌≡◌, ℕ, ◌<◌, ◌≤◌, true, nat_le, Option, Some, None, IfSome, List, []}
-use Rattle.std.proofs.Common.{◌∷◌, map, Ok, codes, refl, sym, ◌∙◌, subst, arith, rules, tests}
-use Rattle.std.specs.List.{AllByRecursion}
-use Rattle.serde_json.specs.Data.{Data, string, object, Members, depth}
+use Rattle.std.proofs.Common.{◌≡◌, ◌≤◌, Option, Some, None, IfSome, Ok, codes, refl, sym}
+use Rattle.std.proofs.Common.{◌∙◌, subst, arith}
+use Rattle.serde_json.specs.Data.{object, depth}
 use Rattle.serde_json.specs.Read.{max_depth}
-use Rattle.serde_json.specs.View.{items_of}
-use Rattle.serde_json.specs.Written.{compact_text}
 use Rattle.json_laws.specs.Plain.{IsPlain}
-use Rattle.json_laws.proofs.ForAbove.{read-compact_text}
-use Rattle.json_laws.proofs.ForAbove.{IsUtf8-compact_text}
 use Rattle.reg_base.specs.declared.line.Line.TheVariants.{Text}
-use Rattle.reg_base.specs.Cuts.{IsCut, cut_text}
-use Rattle.reg_base.specs.Dates.{date_text}
+use Rattle.reg_base.specs.Cuts.{IsCut}
 use Rattle.reg_base.specs.declared.cut.Cut.{Cut}
-use Rattle.reg_base.specs.declared.records.Mark.{Mark}
-use Rattle.reg_base.specs.declared.records.Mark.TheVariants.{Receipt, Expense, Turn}
-use Rattle.reg_base.specs.declared.records.Side.{Side}
-use Rattle.reg_base.proofs.ForAbove.{parse_date-text}
-use Rattle.reg_base.proofs.ForAbove.{parse_cut-text}
 use Rattle.reg_base.proofs.ForAbove.{IsUtf8-name, IsUtf8-date_text, IsUtf8-cut_text}
 use Rattle.reg_base.proofs.ForAbove.{IsUtf8-tested}
-use Rattle.desk_words.specs.declared.fault.Member.{Member}
-use Rattle.desk_words.specs.declared.fault.Member.TheVariants.{Sets}
 use Rattle.desk_words.specs.declared.request.Request.{Request}
+use Rattle.desk_words.specs.declared.request.Request.TheVariants.{Write as Write_request}
+use Rattle.desk_words.specs.declared.request.Request.TheVariants.{Mark as Mark_request}
 use Rattle.desk_words.specs.declared.request.Request.TheVariants.{Manual as Manual_request}
+use Rattle.desk_words.specs.declared.request.Request.TheVariants.{Activity as Activity_request}
+use Rattle.desk_words.specs.declared.request.Request.TheVariants.{Close as Close_request}
+use Rattle.desk_words.specs.declared.request.Request.TheVariants.{Sweep as Sweep_request}
 use Rattle.desk_words.specs.declared.request.Request.TheVariants.{Balance as Balance_request}
-use Rattle.desk_words.specs.declared.request.Manual.{Manual}
+use Rattle.desk_words.specs.declared.request.Request.TheVariants.{Doc as Doc_request}
+use Rattle.desk_words.specs.declared.request.Switch.{Switch}
+use Rattle.desk_words.specs.declared.request.Close.{Close}
+use Rattle.desk_words.specs.declared.request.Sweep.{Sweep}
 use Rattle.desk_words.specs.declared.request.Balance.{Balance}
-use Rattle.desk_words.specs.declared.request.SetText.{SetText}
-use Rattle.desk_words.specs.declared.request.RecordText.{RecordText}
-use Rattle.desk_words.specs.declared.request.RecordText.TheVariants.{Register, Ledger}
-use Rattle.desk_words.specs.Shapes.{OrFault, value_at, json_object, json_items, json_text}
-use Rattle.desk_words.specs.Shapes.{json_name, json_code, json_date, json_cut, json_number}
-use Rattle.desk_words.specs.Shapes.{json_each, json_texts, json_codes}
-use Rattle.desk_words.specs.Sets.{json_mark, json_side, register_record, ledger_record, json_record}
-use Rattle.desk_words.specs.Sets.{json_records, json_set, json_sets}
-use Rattle.desk_words.specs.Reading.{operation_of, check_present, check_known, json_cut_at}
-use Rattle.desk_words.specs.Reading.{manual_request, balance_request, members_of, request_in}
-use Rattle.desk_words.specs.Reading.{request_of_text, request}
-use Rattle.desk_words.specs.JsonValues.{whole, texts_data}
-use Rattle.desk_words.specs.RequestTexts.{mark_name, side_data, register_data, ledger_data}
-use Rattle.desk_words.specs.RequestTexts.{record_data, set_data, sets_data, manual_frame}
-use Rattle.desk_words.specs.RequestTexts.{manual_members, balance_frame, balance_members}
+use Rattle.desk_words.specs.declared.request.DocQuestion.{DocQuestion}
+use Rattle.desk_words.specs.Shapes.{value_at, json_boolean}
+use Rattle.desk_words.specs.ReadRequests.{switch_request}
+use Rattle.desk_words.specs.ReadRequests.{close_request, sweep_request}
+use Rattle.desk_words.specs.ReadRequests.{balance_request, doc_question}
+use Rattle.desk_words.specs.Reading.{operation_of, check_present, check_known, members_of}
+use Rattle.desk_words.specs.Reading.{request_in, request_of_text, request}
+use Rattle.desk_words.specs.RequestTexts.{switch_members}
+use Rattle.desk_words.specs.RequestTexts.{close_members, sweep_members}
+use Rattle.desk_words.specs.RequestTexts.{balance_frame, balance_members, doc_members}
 use Rattle.desk_words.specs.RequestTexts.{request_data, request_text}
-use Rattle.desk_words.specs.WellFormed.{IsCode, IsName, IsSide, IsRecordText, IsSetText}
-use Rattle.desk_words.specs.WellFormed.{IsManualRequest, IsBalanceRequest, IsRequest}
-use Rattle.desk_words.proofs.Documents.{json_document-text}
-use Rattle.desk_words.proofs.PlainLemmas.{IsPlain-sets_data, depth-sets_data}
+use Rattle.desk_words.specs.WellFormed.{IsSwitch}
+use Rattle.desk_words.specs.WellFormed.{IsCloseRequest, IsSweepRequest}
+use Rattle.desk_words.specs.WellFormed.{IsBalanceRequest, IsDocQuestion, IsRequest}
+use Rattle.desk_words.proofs.ShapesBack.{json_name-back, json_number-back}
+use Rattle.desk_words.proofs.ShapesBack.{json_date-back, json_cut-back}
+use Rattle.desk_words.proofs.TextsBack.{text-back, IsPlain-whole}
+use Rattle.desk_words.proofs.DocumentsBack.{write_text-back, manual_text-back}
 
--- ---- lists, records and sets are read from their JSON
+-- ---- `mark` and `activity`
 
--- where each element is read from what stands for it, the list is
-json_each-back : {X : Type 0} (shape : Data → OrFault X) (data_of : X → Data) (P : X → Type 0)
-    → ((x : X) → P x → shape (data_of x) ≡ Ok x) → (xs : List X) → AllByRecursion P xs
-    → json_each shape (items_of (map data_of xs)) ≡ Ok xs
-json_each-back shape data_of P back [] h = refl
-json_each-back shape data_of P back (x ∷ xs) h =
-    rw (back x h.0, json_each-back shape data_of P back xs h.1)
-
-texts_back : (m : Member) (texts : List (List ℕ))
-    → json_each (json_text m) (items_of (map string texts)) ≡ Ok texts
-unfolding json_text
-texts_back m [] = refl
-texts_back m (text ∷ texts) = rw (texts_back m texts)
-
-json_texts-back : (m : Member) (texts : List (List ℕ)) → json_texts m (texts_data texts) ≡ Ok texts
-unfolding json_texts json_items texts_data
-json_texts-back m texts = texts_back m texts
-
-json_code-back : (m : Member) (code : List ℕ) → IsCode code → json_code m (string code) ≡ Ok code
-unfolding json_code json_text
-json_code-back m code is = rw is
-
-json_side-back : (m : Member) (side : Option Side) → IfSome side IsSide
-    → json_side m (side_data side) ≡ Ok side
-unfolding json_side json_codes json_items texts_data
-json_side-back m None h = refl
-json_side-back m (Some side) h =
-    rw (json_each-back (json_code m) string IsCode (json_code-back m) (side.account ∷ side.extras)
-    h)
-
-json_mark-back : (m : Member) (mark : Mark) → json_mark m (string (mark_name mark)) ≡ Ok mark
-unfolding json_mark json_text
-json_mark-back m Receipt = refl
-json_mark-back m Expense = refl
-json_mark-back m Turn = refl
-
-json_record-back : (m : Member) (given : RecordText) → IsRecordText given
-    → json_record m (record_data given) ≡ Ok given
-unfolding json_record json_object register_record ledger_record register_data ledger_data value_at
-    json_text
-json_record-back m (Register r) h =
-    rw (json_mark-back m r.mark, json_texts-back m r.sums, json_texts-back m r.values)
-json_record-back m (Ledger r) h = rw (json_side-back m r.credit h.1, json_side-back m r.debit h.2)
-
-json_name-back : (m : Member) (name : List ℕ) → IsName name → json_name m (string name) ≡ Ok name
-unfolding json_name json_text
-json_name-back m name is = rw is
-
-json_set-back : (m : Member) (set : SetText) → IsSetText set → json_set m (set_data set) ≡ Ok set
-unfolding json_set json_object json_records json_items set_data value_at
-json_set-back m set h =
-    rw (
-      json_name-back m set.space h.0,
-      json_each-back (json_record m) record_data IsRecordText
-          (json_record-back m) set.records h.1,
-    )
-
-json_sets-back : (m : Member) (sets : List SetText) → AllByRecursion IsSetText sets
-    → json_sets m (sets_data sets) ≡ Ok sets
-unfolding json_sets json_items sets_data
-json_sets-back m sets h = json_each-back (json_set m) set_data IsSetText (json_set-back m) sets h
-
--- ---- requests are read from their members
-
-json_date-back : (m : Member) (date : ℕ) → date < 3_155_760_000
-    → json_date m (string (date_text date)) ≡ Ok date
-unfolding json_date json_text
-json_date-back m date within = rw (parse_date-text date within)
-
-json_number-back : (m : Member) (n : ℕ) → 1 ≤ n → n ≤ 4_294_967_295 → json_number m (whole n) ≡ Ok n
-unfolding json_number
-json_number-back m n first last =
-    let low : nat_le 1 n ≡ true = search (rules, tests) in
-    let high : nat_le n 4_294_967_295 ≡ true = search (rules, tests) in
-    rw (low, high)
-
-json_cut-back : (m : Member) (cut : Cut) → IsCut cut → json_cut m (string (cut_text cut)) ≡ Ok cut
-unfolding json_cut json_text
-json_cut-back m cut is = rw (parse_cut-text cut is)
-
--- a manual document without the members that are not built
-abbrev built : Manual → Manual
-built m = record {
-  clerk = m.clerk;
-  no = m.no;
-  doc = None;
-  key = None;
-  date = m.date;
-  sets = m.sets;
-  comment = None;
+-- without a transaction
+abbrev switched : Switch → Switch
+switched s = record {
+  clerk = s.clerk;
+  no = s.no;
+  doc = s.doc;
+  on = s.on;
   tx = None;
 }
 
-built-same : (m : Manual) → IsManualRequest m → m ≡ built m
-built-same m h = λ i. record {
-  clerk = m.clerk;
-  no = m.no;
-  doc = h.no_doc i;
-  key = h.no_key i;
-  date = m.date;
-  sets = m.sets;
-  comment = h.no_comment i;
+switched-same : (s : Switch) → IsSwitch s → s ≡ switched s
+switched-same s h = λ i. record {
+  clerk = s.clerk;
+  no = s.no;
+  doc = s.doc;
+  on = s.on;
   tx = h.no_tx i;
 }
 
-manual-back : (m : Manual) → IsManualRequest m
-    → request_in (manual_frame m) ≡ Ok (Manual_request (built m))
-unfolding request_in operation_of check_present check_known members_of manual_request value_at
-    manual_frame
-manual-back m h =
+mark-back : (s : Switch) → IsSwitch s
+    → request_in (switch_members (codes "mark") (switched s)) ≡ Ok (Mark_request (switched s))
+unfolding request_in operation_of check_present check_known members_of switch_request value_at
+    switch_members json_boolean
+mark-back s h =
     rw (
-      json_name-back _ m.clerk h.clerk,
-      json_number-back _ m.no h.first h.last,
-      json_date-back _
-          m.date h.date,
-      json_sets-back Sets m.sets h.sets,
+      json_name-back _ s.clerk h.clerk,
+      json_number-back _ s.no h.number,
+      json_number-back _ s.doc h.doc,
     )
+
+IsPlain-mark : (s : Switch) → IsSwitch s
+    → IsPlain (object (switch_members (codes "mark") (switched s)))
+unfolding switch_members
+IsPlain-mark s h = (
+  (IsUtf8-tested (codes "clerk") refl, refl),
+  IsUtf8-name s.clerk h.clerk,
+  (
+    (IsUtf8-tested (codes "doc") refl, refl),
+    IsPlain-whole s.doc h.doc,
+    (
+      (IsUtf8-tested (codes "no") refl, refl),
+      IsPlain-whole s.no h.number,
+      (
+        (IsUtf8-tested (codes "on") refl, refl),
+        tt,
+        ((IsUtf8-tested (codes "op") refl, refl), IsUtf8-tested (codes "mark") refl, tt),
+      ),
+    ),
+  ),
+)
+
+depth-mark : (s : Switch) → depth (object (switch_members (codes "mark") (switched s))) ≤ max_depth
+unfolding switch_members
+depth-mark s = omega arith
+
+mark_text-back : (s : Switch) → IsSwitch s
+    → request_of_text (request_text (Mark_request (switched s))) ≡ Ok (Mark_request (switched s))
+unfolding request_text request_data
+mark_text-back s h =
+    text-back (switch_members (codes "mark") (switched s)) (IsPlain-mark s h) (depth-mark s)
+    ∙ mark-back s h
+
+activity-back : (s : Switch) → IsSwitch s
+    → request_in (switch_members (codes "activity") (switched s))
+    ≡ Ok (Activity_request (switched s))
+unfolding request_in operation_of check_present check_known members_of switch_request value_at
+    switch_members json_boolean
+activity-back s h =
+    rw (
+      json_name-back _ s.clerk h.clerk,
+      json_number-back _ s.no h.number,
+      json_number-back _ s.doc h.doc,
+    )
+
+IsPlain-activity : (s : Switch) → IsSwitch s
+    → IsPlain (object (switch_members (codes "activity") (switched s)))
+unfolding switch_members
+IsPlain-activity s h = (
+  (IsUtf8-tested (codes "clerk") refl, refl),
+  IsUtf8-name s.clerk h.clerk,
+  (
+    (IsUtf8-tested (codes "doc") refl, refl),
+    IsPlain-whole s.doc h.doc,
+    (
+      (IsUtf8-tested (codes "no") refl, refl),
+      IsPlain-whole s.no h.number,
+      (
+        (IsUtf8-tested (codes "on") refl, refl),
+        tt,
+        ((IsUtf8-tested (codes "op") refl, refl), IsUtf8-tested (codes "activity") refl, tt),
+      ),
+    ),
+  ),
+)
+
+depth-activity : (s : Switch)
+    → depth (object (switch_members (codes "activity") (switched s))) ≤ max_depth
+unfolding switch_members
+depth-activity s = omega arith
+
+activity_text-back : (s : Switch) → IsSwitch s
+    → request_of_text (request_text (Activity_request (switched s)))
+    ≡ Ok (Activity_request (switched s))
+unfolding request_text request_data
+activity_text-back s h =
+    text-back (switch_members (codes "activity") (switched s)) (IsPlain-activity s h)
+    (depth-activity s)
+    ∙ activity-back s h
+
+-- ---- `close`, `sweep` and `doc`
+
+close-back : (c : Close) → IsCloseRequest c
+    → request_in (close_members c) ≡ Ok (Close_request c)
+unfolding request_in operation_of check_present check_known members_of close_request value_at
+    close_members
+close-back c h =
+    rw (
+      json_name-back _ c.clerk h.clerk,
+      json_number-back _ c.no h.number,
+      json_date-back _ c.date h.date,
+    )
+
+IsPlain-close : (c : Close) → IsCloseRequest c → IsPlain (object (close_members c))
+unfolding close_members
+IsPlain-close c h = (
+  (IsUtf8-tested (codes "clerk") refl, refl),
+  IsUtf8-name c.clerk h.clerk,
+  (
+    (IsUtf8-tested (codes "date") refl, refl),
+    IsUtf8-date_text c.date,
+    (
+      (IsUtf8-tested (codes "no") refl, refl),
+      IsPlain-whole c.no h.number,
+      ((IsUtf8-tested (codes "op") refl, refl), IsUtf8-tested (codes "close") refl, tt),
+    ),
+  ),
+)
+
+depth-close : (c : Close) → depth (object (close_members c)) ≤ max_depth
+unfolding close_members
+depth-close c = omega arith
+
+close_text-back : (c : Close) → IsCloseRequest c
+    → request_of_text (request_text (Close_request c)) ≡ Ok (Close_request c)
+unfolding request_text request_data
+close_text-back c h =
+    text-back (close_members c) (IsPlain-close c h) (depth-close c) ∙ close-back c h
+
+sweep-back : (s : Sweep) → IsSweepRequest s
+    → request_in (sweep_members s) ≡ Ok (Sweep_request s)
+unfolding request_in operation_of check_present check_known members_of sweep_request value_at
+    sweep_members
+sweep-back s h =
+    rw (
+      json_name-back _ s.clerk h.clerk,
+      json_number-back _ s.no h.number,
+      json_number-back _ s.doc h.doc,
+    )
+
+IsPlain-sweep : (s : Sweep) → IsSweepRequest s → IsPlain (object (sweep_members s))
+unfolding sweep_members
+IsPlain-sweep s h = (
+  (IsUtf8-tested (codes "clerk") refl, refl),
+  IsUtf8-name s.clerk h.clerk,
+  (
+    (IsUtf8-tested (codes "doc") refl, refl),
+    IsPlain-whole s.doc h.doc,
+    (
+      (IsUtf8-tested (codes "no") refl, refl),
+      IsPlain-whole s.no h.number,
+      ((IsUtf8-tested (codes "op") refl, refl), IsUtf8-tested (codes "sweep") refl, tt),
+    ),
+  ),
+)
+
+depth-sweep : (s : Sweep) → depth (object (sweep_members s)) ≤ max_depth
+unfolding sweep_members
+depth-sweep s = omega arith
+
+sweep_text-back : (s : Sweep) → IsSweepRequest s
+    → request_of_text (request_text (Sweep_request s)) ≡ Ok (Sweep_request s)
+unfolding request_text request_data
+sweep_text-back s h =
+    text-back (sweep_members s) (IsPlain-sweep s h) (depth-sweep s) ∙ sweep-back s h
+
+-- without a transaction
+abbrev question : DocQuestion → DocQuestion
+question d = record {
+  clerk = d.clerk;
+  doc = d.doc;
+  tx = None;
+}
+
+question-same : (d : DocQuestion) → IsDocQuestion d → d ≡ question d
+question-same d h = λ i. record {
+  clerk = d.clerk;
+  doc = d.doc;
+  tx = h.no_tx i;
+}
+
+doc-back : (d : DocQuestion) → IsDocQuestion d
+    → request_in (doc_members (question d)) ≡ Ok (Doc_request (question d))
+unfolding request_in operation_of check_present check_known members_of doc_question value_at
+    doc_members
+doc-back d h =
+    rw (
+      json_name-back _ d.clerk h.clerk,
+      json_number-back _ d.doc h.doc,
+    )
+
+IsPlain-doc : (d : DocQuestion) → IsDocQuestion d → IsPlain (object (doc_members (question d)))
+unfolding doc_members
+IsPlain-doc d h = (
+  (IsUtf8-tested (codes "clerk") refl, refl),
+  IsUtf8-name d.clerk h.clerk,
+  (
+    (IsUtf8-tested (codes "doc") refl, refl),
+    IsPlain-whole d.doc h.doc,
+    ((IsUtf8-tested (codes "op") refl, refl), IsUtf8-tested (codes "doc") refl, tt),
+  ),
+)
+
+depth-doc : (d : DocQuestion) → depth (object (doc_members (question d))) ≤ max_depth
+unfolding doc_members
+depth-doc d = omega arith
+
+doc_text-back : (d : DocQuestion) → IsDocQuestion d
+    → request_of_text (request_text (Doc_request (question d))) ≡ Ok (Doc_request (question d))
+unfolding request_text request_data
+doc_text-back d h =
+    text-back (doc_members (question d)) (IsPlain-doc d h) (depth-doc d) ∙ doc-back d h
+
+-- ---- `balance`
 
 -- a balance without the members that are not built
 abbrev asked : Balance → Option Cut → Balance
@@ -192,7 +301,7 @@ asked-same b h cut is = λ i. record {
 
 balance-back : (b : Balance) → IsBalanceRequest b → (cut : Option Cut) → IfSome cut IsCut
     → request_in (balance_members (asked b cut)) ≡ Ok (Balance_request (asked b cut))
-unfolding request_in operation_of check_present check_known members_of balance_request json_cut_at
+unfolding request_in operation_of check_present check_known members_of balance_request
     value_at balance_members balance_frame
 balance-back b h None is =
     rw (json_name-back _ b.clerk h.clerk, json_name-back _ b.register h.register)
@@ -203,48 +312,6 @@ balance-back b h (Some cut) is =
       json_cut-back _
           cut is,
     )
-
--- ---- and so from their text
-
--- the text of a plain object is read as its members
-text-back : (ms : Members) → IsPlain (object ms) → depth (object ms) ≤ max_depth
-    → request_of_text (compact_text (object ms)) ≡ request_in ms
-unfolding request_of_text
-text-back ms plain shallow =
-    rw (
-      json_document-text (compact_text (object ms)) (IsUtf8-compact_text (object ms) plain),
-      read-compact_text (object ms) plain shallow,
-    )
-
-IsPlain-manual : (m : Manual) → IsManualRequest m → IsPlain (object (manual_frame m))
-unfolding manual_frame
-IsPlain-manual m h = (
-  (IsUtf8-tested (codes "clerk") refl, refl),
-  IsUtf8-name m.clerk h.clerk,
-  (
-    (IsUtf8-tested (codes "date") refl, refl),
-    IsUtf8-date_text m.date,
-    (
-      (IsUtf8-tested (codes "no") refl, refl),
-      omega (arith, h.last),
-      (
-        (IsUtf8-tested (codes "op") refl, refl),
-        IsUtf8-tested (codes "manual") refl,
-        ((IsUtf8-tested (codes "sets") refl, refl), IsPlain-sets_data m.sets h.sets, tt),
-      ),
-    ),
-  ),
-)
-
-depth-manual : (m : Manual) → depth (object (manual_frame m)) ≤ max_depth
-unfolding manual_frame
-depth-manual m = omega (arith, depth-sets_data m.sets)
-
-manual_text-back : (m : Manual) → IsManualRequest m
-    → request_of_text (request_text (Manual_request (built m))) ≡ Ok (Manual_request (built m))
-unfolding request_text request_data manual_members manual_frame
-manual_text-back m h = text-back (manual_frame m) (IsPlain-manual m h) (depth-manual m)
-    ∙ manual-back m h
 
 IsPlain-balance : (b : Balance) → IsBalanceRequest b → (cut : Option Cut) → IfSome cut IsCut
     → IsPlain (object (balance_members (asked b cut)))
@@ -291,9 +358,19 @@ ReadsBack r = request_of_text (request_text r) ≡ Ok r
 
 -- the canonical text of a request is read as the request
 pub request-back : (r : Request) → IsRequest r → request (Text (request_text r)) ≡ Ok r
-request-back (Manual_request m) h =
-    subst (λ (x : Manual). ReadsBack (Manual_request x)) (sym (built-same m h))
-    (manual_text-back m h)
+request-back (Write_request w) h = write_text-back w h
+request-back (Mark_request s) h =
+    subst (λ (x : Switch). ReadsBack (Mark_request x)) (sym (switched-same s h))
+    (mark_text-back s h)
+request-back (Manual_request m) h = manual_text-back m h
+request-back (Activity_request s) h =
+    subst (λ (x : Switch). ReadsBack (Activity_request x)) (sym (switched-same s h))
+    (activity_text-back s h)
+request-back (Close_request c) h = close_text-back c h
+request-back (Sweep_request s) h = sweep_text-back s h
 request-back (Balance_request b) h =
     subst (λ (x : Balance). ReadsBack (Balance_request x)) (sym (asked-same b h b.cut refl))
     (balance_text-back b h b.cut h.cut)
+request-back (Doc_request d) h =
+    subst (λ (x : DocQuestion). ReadsBack (Doc_request x)) (sym (question-same d h))
+    (doc_text-back d h)

@@ -1,22 +1,25 @@
 -- A request has no float, so that its text is known.
-use Rattle.std.proofs.Common.{◌≡◌, ℕ, false, Option, Some, None, option_map, List, [], ◌∷◌, map}
+use Rattle.std.proofs.Common.{◌≡◌, ℕ, false, Option, Some, None, option_map, List, [], ◌∷◌}
 use Rattle.std.proofs.Common.{codes, refl}
-use Rattle.std.proofs.lemmas.Bool.{or_parts}
-use Rattle.std.specs.Ordering.{nat_cmp, match_ordering}
-use Rattle.std.specs.declared.cmp.Ordering.{Ordering}
-use Rattle.std.specs.declared.cmp.Ordering.TheVariants.{Less, Equal, Greater}
-use Rattle.std.specs.Cmp.Lexicographic.{slice_cmp}
-use Rattle.serde_json.specs.Data.{Data, string, Members, no_members, member, put}
-use Rattle.serde_json.specs.View.{items_of}
-use Rattle.serde_json.specs.Written.{has_float, items_have_float, members_have_float}
+use Rattle.serde_json.specs.Data.{Data, string, Members, no_members, put}
+use Rattle.serde_json.specs.Written.{has_float, members_have_float}
 use Rattle.reg_base.specs.declared.cut.Cut.{Cut}
 use Rattle.reg_base.specs.declared.records.Side.{Side}
 use Rattle.reg_base.specs.Cuts.{cut_text}
 use Rattle.desk_words.specs.declared.request.Request.{Request}
+use Rattle.desk_words.specs.declared.request.Request.TheVariants.{Write as Write_request}
+use Rattle.desk_words.specs.declared.request.Request.TheVariants.{Mark as Mark_request}
 use Rattle.desk_words.specs.declared.request.Request.TheVariants.{Manual as Manual_request}
+use Rattle.desk_words.specs.declared.request.Request.TheVariants.{Activity as Activity_request}
+use Rattle.desk_words.specs.declared.request.Request.TheVariants.{Close as Close_request}
+use Rattle.desk_words.specs.declared.request.Request.TheVariants.{Sweep as Sweep_request}
 use Rattle.desk_words.specs.declared.request.Request.TheVariants.{Balance as Balance_request}
+use Rattle.desk_words.specs.declared.request.Request.TheVariants.{Doc as Doc_request}
+use Rattle.desk_words.specs.declared.request.Write.{Write}
+use Rattle.desk_words.specs.declared.request.Switch.{Switch}
 use Rattle.desk_words.specs.declared.request.Manual.{Manual}
 use Rattle.desk_words.specs.declared.request.Balance.{Balance}
+use Rattle.desk_words.specs.declared.request.DocQuestion.{DocQuestion}
 use Rattle.desk_words.specs.declared.request.SetText.{SetText}
 use Rattle.desk_words.specs.declared.request.FilterText.{FilterText}
 use Rattle.desk_words.specs.declared.request.RecordText.{RecordText}
@@ -24,37 +27,14 @@ use Rattle.desk_words.specs.declared.request.RecordText.TheVariants.{Register, L
 use Rattle.desk_words.specs.JsonValues.{whole, texts_data, put_if}
 use Rattle.desk_words.specs.RequestTexts.{side_data, register_data, ledger_data, record_data}
 use Rattle.desk_words.specs.RequestTexts.{set_data, sets_data, put_filters, filters_data}
-use Rattle.desk_words.specs.RequestTexts.{manual_frame, manual_members, balance_frame}
-use Rattle.desk_words.specs.RequestTexts.{balance_members, request_data}
-use Rattle.desk_words.proofs.JsonLemmas.{has_float-texts_data}
+use Rattle.desk_words.specs.RequestTexts.{write_frame, write_members, switch_members, manual_frame}
+use Rattle.desk_words.specs.RequestTexts.{manual_members, close_members, sweep_members}
+use Rattle.desk_words.specs.RequestTexts.{balance_frame, balance_members, doc_members, request_data}
+use Rattle.desk_words.proofs.JsonLemmas.{items_have_float-each, has_float-texts_data}
+use Rattle.desk_words.proofs.JsonLemmas.{members_have_float-put, has_float-fields_data}
+use Rattle.desk_words.proofs.JsonLemmas.{has_float-lines_data}
 
--- where what stands for each element has no float, the list has none
-items_have_float-each : {X : Type 0} (data_of : X → Data)
-    → ((x : X) → has_float (data_of x) ≡ false) → (xs : List X)
-    → items_have_float (items_of (map data_of xs)) ≡ false
-items_have_float-each data_of none [] = refl
-items_have_float-each data_of none (x ∷ xs) = rw (none x) (items_have_float-each data_of none xs)
-
-at_ordering : (o : Ordering) (a b c : Members) → members_have_float a ≡ false
-    → members_have_float b ≡ false → members_have_float c ≡ false
-    → members_have_float (match_ordering o a b c) ≡ false
-at_ordering Less a b c p q r = p
-at_ordering Equal a b c p q r = q
-at_ordering Greater a b c p q r = r
-
--- members with one more that has none have none
-members_have_float-put : (name : List ℕ) (value : Data) (ms : Members) → has_float value ≡ false
-    → members_have_float ms ≡ false → members_have_float (put name value ms) ≡ false
-members_have_float-put name value no_members v h = rw v
-members_have_float-put name value (member l e ms) v h =
-    let parts = or_parts (has_float e) (members_have_float ms) h in
-    let all : members_have_float (member name value (member l e ms)) ≡ false = rw v h in
-    let here : members_have_float (member l value ms) ≡ false = rw v parts.1 in
-    let later : members_have_float (member l e (put name value ms)) ≡ false =
-    rw parts.0 (members_have_float-put name value ms v parts.1) in
-    at_ordering (slice_cmp nat_cmp name l) _ _ _ all here later
-
--- so have those with one that may be absent
+-- members with one more, where it is there, have none
 members_have_float-put_if : {X : Type 0} (name : List ℕ) (data_of : X
     → Data) (value : Option X) (ms : Members) → ((x : X) → has_float (data_of x) ≡ false)
     → members_have_float ms ≡ false
@@ -88,6 +68,25 @@ members_have_float-filters ms (filter ∷ filters) h =
     (members_have_float-put filter.name (texts_data filter.values) ms
     (has_float-texts_data filter.values) h)
 
+members_have_float-write : (w : Write) → members_have_float (write_members w) ≡ false
+unfolding write_members write_frame
+members_have_float-write w =
+    members_have_float-put_if (codes "tx") whole w.tx _ (λ n. refl)
+    (members_have_float-put_if (codes "comment") string w.comment _ (λ s. refl)
+    (members_have_float-put_if (codes "key") string w.key _ (λ s. refl)
+    (members_have_float-put_if (codes "doc") whole w.doc _ (λ n. refl)
+    (rw (has_float-fields_data w.head, has_float-lines_data w.lines)))))
+
+members_have_float-switch : (op : List ℕ) (s : Switch)
+    → members_have_float (switch_members op s) ≡ false
+unfolding switch_members
+members_have_float-switch op s =
+    members_have_float-put_if (codes "tx") whole s.tx _ (λ n. refl) refl
+
+members_have_float-doc : (d : DocQuestion) → members_have_float (doc_members d) ≡ false
+unfolding doc_members
+members_have_float-doc d = members_have_float-put_if (codes "tx") whole d.tx _ (λ n. refl) refl
+
 members_have_float-manual : (m : Manual) → members_have_float (manual_members m) ≡ false
 unfolding manual_members manual_frame
 members_have_float-manual m =
@@ -109,6 +108,12 @@ members_have_float-balance b =
 
 -- a request has none
 pub has_float-request_data : (request : Request) → has_float (request_data request) ≡ false
-unfolding request_data
+unfolding request_data close_members sweep_members
+has_float-request_data (Write_request w) = members_have_float-write w
+has_float-request_data (Mark_request s) = members_have_float-switch (codes "mark") s
 has_float-request_data (Manual_request m) = members_have_float-manual m
+has_float-request_data (Activity_request s) = members_have_float-switch (codes "activity") s
+has_float-request_data (Close_request c) = refl
+has_float-request_data (Sweep_request s) = refl
 has_float-request_data (Balance_request b) = members_have_float-balance b
+has_float-request_data (Doc_request d) = members_have_float-doc d

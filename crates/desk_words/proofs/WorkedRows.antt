@@ -31,8 +31,9 @@ use Rattle.desk_words.specs.Shapes.{value_at, json_object, json_items, json_text
 use Rattle.desk_words.specs.Shapes.{json_date, json_cut, json_number, json_texts}
 use Rattle.desk_words.specs.Sets.{json_mark, register_record, json_record, json_records, json_set}
 use Rattle.desk_words.specs.Sets.{json_sets}
-use Rattle.desk_words.specs.Reading.{operation_of, check_present, check_known, json_cut_at}
-use Rattle.desk_words.specs.Reading.{manual_request, balance_request, members_of, request_in}
+use Rattle.desk_words.specs.ReadRequests.{key_beside, manual_request, balance_request}
+use Rattle.desk_words.specs.Reading.{operation_of, check_present, check_known, members_of}
+use Rattle.desk_words.specs.Reading.{request_in}
 use Rattle.desk_words.specs.RequestTexts.{register_data, ledger_data, set_data, sets_data}
 use Rattle.desk_words.specs.RequestTexts.{manual_frame, manual_members, balance_frame}
 use Rattle.desk_words.specs.RequestTexts.{balance_members, request_data, request_text}
@@ -55,14 +56,14 @@ sets_of_nails =
     (member (codes "space") (string (codes "goods")) no_members))) no_items)
 
 -- the date of both rows
-abbrev morning : List ℕ
+abbrev pub morning : List ℕ
 morning = codes "2024-01-10T09:00:00"
 
 morning_text : date_text 758_192_400 ≡ morning
 unfolding date_text day_text second_text day_of day_from_year day_from_month
 morning_text = refl
 
-morning_date : parse_date morning ≡ Ok 758_192_400
+pub morning_date : parse_date morning ≡ Ok 758_192_400
 morning_date = rw morning_text at (parse_date-text 758_192_400 (lit< tt))
 
 a_manual_document :
@@ -88,8 +89,8 @@ a_manual_document :
       comment = None;
       tx = None;
     }))
-unfolding request_in operation_of check_present check_known members_of manual_request value_at
-    json_object json_items json_text json_name json_date json_number json_texts json_mark
+unfolding request_in operation_of check_present check_known members_of manual_request key_beside
+    value_at json_object json_items json_text json_name json_date json_number json_texts json_mark
     register_record json_record json_records json_set json_sets is_name
 a_manual_document = rw morning_date
 
@@ -106,7 +107,7 @@ a_balance :
       cut = Some (ThroughDate 758_192_400);
       tx = None;
     }))
-unfolding request_in operation_of check_present check_known members_of balance_request json_cut_at
+unfolding request_in operation_of check_present check_known members_of balance_request
     value_at json_text json_name json_cut is_name parse_cut cut_by_word cut_through cut_before
 a_balance = rw morning_date
 
@@ -156,7 +157,7 @@ null_for_a_cut :
     (member (codes "op") (string (codes "balance"))
     (member (codes "register") (string (codes "goods")) no_members))))
     ≡ Err (BadMember Cut_word)
-unfolding request_in operation_of check_present check_known members_of balance_request json_cut_at
+unfolding request_in operation_of check_present check_known members_of balance_request
     value_at json_text json_name json_cut is_name
 null_for_a_cut = refl
 

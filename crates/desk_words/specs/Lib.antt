@@ -1,6 +1,8 @@
 pub mod Members
 pub mod Shapes
 pub mod Sets
+pub mod Fields
+pub mod ReadRequests
 pub mod Reading
 pub mod JsonValues
 pub mod FieldTexts

@@ -5,37 +5,65 @@ use Rattle.std.specs.Str.{bytes_eq}
 use Rattle.serde_json.specs.Data.{Members, no_members, member}
 use Rattle.serde_json.specs.Find.{get_member}
 use Rattle.desk_words.specs.declared.fault.Member.{Member}
-use Rattle.desk_words.specs.declared.fault.Member.TheVariants.{Op, Clerk, No, Date, Sets, Register}
-use Rattle.desk_words.specs.declared.fault.Member.TheVariants.{Cut}
+use Rattle.desk_words.specs.declared.fault.Member.TheVariants.{Op, Clerk, No, Doc, Key, Kind, Date}
+use Rattle.desk_words.specs.declared.fault.Member.TheVariants.{Head, Lines, On, Sets, Comment}
+use Rattle.desk_words.specs.declared.fault.Member.TheVariants.{Register, Cut}
 use Rattle.desk_words.specs.declared.members.Operation.{Operation}
-use Rattle.desk_words.specs.declared.members.Operation.TheVariants.{Manual, Balance}
+use Rattle.desk_words.specs.declared.members.Operation.TheVariants.{Write, Mark, Manual, Activity}
+use Rattle.desk_words.specs.declared.members.Operation.TheVariants.{Close, Sweep, Balance}
+use Rattle.desk_words.specs.declared.members.Operation.TheVariants.{Doc as Doc_op}
 
 -- the word of a member
 abbrev pub member_name : Member → List ℕ
 member_name Op = codes "op"
 member_name Clerk = codes "clerk"
 member_name No = codes "no"
+member_name Doc = codes "doc"
+member_name Key = codes "key"
+member_name Kind = codes "kind"
 member_name Date = codes "date"
+member_name Head = codes "head"
+member_name Lines = codes "lines"
+member_name On = codes "on"
 member_name Sets = codes "sets"
+member_name Comment = codes "comment"
 member_name Register = codes "register"
 member_name Cut = codes "cut"
 
 -- the operation of that name
 abbrev pub operation_named : List ℕ → Option Operation
 operation_named name =
-    if bytes_eq name (codes "manual") then Some Manual
+    if bytes_eq name (codes "write") then Some Write
+    else (if bytes_eq name (codes "mark") then Some Mark
+    else (if bytes_eq name (codes "manual") then Some Manual
+    else (if bytes_eq name (codes "activity") then Some Activity
+    else (if bytes_eq name (codes "close") then Some Close
+    else (if bytes_eq name (codes "sweep") then Some Sweep
     else (if bytes_eq name (codes "balance") then Some Balance
-    else None)
+    else (if bytes_eq name (codes "doc") then Some Doc_op
+    else None)))))))
 
 -- the members that an operation asks for, in order
 abbrev pub required_members : Operation → List Member
+required_members Write = Op ∷ Clerk ∷ No ∷ Kind ∷ Date ∷ Head ∷ Lines ∷ []
+required_members Mark = Op ∷ Clerk ∷ No ∷ Doc ∷ On ∷ []
 required_members Manual = Op ∷ Clerk ∷ No ∷ Date ∷ Sets ∷ []
+required_members Activity = Op ∷ Clerk ∷ No ∷ Doc ∷ On ∷ []
+required_members Close = Op ∷ Clerk ∷ No ∷ Date ∷ []
+required_members Sweep = Op ∷ Clerk ∷ No ∷ Doc ∷ []
 required_members Balance = Op ∷ Clerk ∷ Register ∷ []
+required_members Doc_op = Op ∷ Clerk ∷ Doc ∷ []
 
 -- the members that an operation may have besides
 abbrev pub optional_members : Operation → List Member
-optional_members Manual = []
+optional_members Write = Doc ∷ Key ∷ Comment ∷ []
+optional_members Mark = []
+optional_members Manual = Doc ∷ Key ∷ Comment ∷ []
+optional_members Activity = []
+optional_members Close = []
+optional_members Sweep = []
 optional_members Balance = Cut ∷ []
+optional_members Doc_op = []
 
 -- the first of the members that an object lacks
 abbrev pub first_missing : List Member → Members → Option Member

@@ -8,25 +8,27 @@ use Rattle.serde_json.specs.Find.{get_member, as_object, as_str}
 use Rattle.reg_base.specs.declared.line.Line.{Line}
 use Rattle.reg_base.specs.declared.line.Line.TheVariants.{Text, TooLong as TooLong_line}
 use Rattle.reg_base.specs.Results.{◌>>=◌, some_or, none_or}
-use Rattle.reg_base.specs.declared.cut.Cut.{Cut}
-use Rattle.desk_words.specs.declared.fault.Member.{Member}
-use Rattle.desk_words.specs.declared.fault.Member.TheVariants.{Op, Clerk, No, Date, Sets, Register}
-use Rattle.desk_words.specs.declared.fault.Member.TheVariants.{Cut as Cut_word}
+use Rattle.desk_words.specs.declared.fault.Member.TheVariants.{Op}
 use Rattle.desk_words.specs.declared.fault.WordFault.TheVariants.{TooLong, NotJson, NotObject}
 use Rattle.desk_words.specs.declared.fault.WordFault.TheVariants.{UnknownOp, Missing, UnknownMember}
 use Rattle.desk_words.specs.declared.members.Operation.{Operation}
+use Rattle.desk_words.specs.declared.members.Operation.TheVariants.{Write as Write_op}
+use Rattle.desk_words.specs.declared.members.Operation.TheVariants.{Mark as Mark_op}
 use Rattle.desk_words.specs.declared.members.Operation.TheVariants.{Manual as Manual_op}
+use Rattle.desk_words.specs.declared.members.Operation.TheVariants.{Activity as Activity_op}
+use Rattle.desk_words.specs.declared.members.Operation.TheVariants.{Close as Close_op}
+use Rattle.desk_words.specs.declared.members.Operation.TheVariants.{Sweep as Sweep_op}
 use Rattle.desk_words.specs.declared.members.Operation.TheVariants.{Balance as Balance_op}
+use Rattle.desk_words.specs.declared.members.Operation.TheVariants.{Doc as Doc_op}
 use Rattle.desk_words.specs.declared.request.Request.{Request}
-use Rattle.desk_words.specs.declared.request.Request.TheVariants.{Manual as Manual_request}
-use Rattle.desk_words.specs.declared.request.Request.TheVariants.{Balance as Balance_request}
-use Rattle.desk_words.specs.declared.request.Manual.{Manual}
-use Rattle.desk_words.specs.declared.request.Balance.{Balance}
-use Rattle.desk_words.specs.declared.request.SetText.{SetText}
+use Rattle.desk_words.specs.declared.request.Request.TheVariants.{Write, Mark, Manual, Activity}
+use Rattle.desk_words.specs.declared.request.Request.TheVariants.{Close, Sweep, Balance, Doc}
 use Rattle.desk_words.specs.Members.{member_name, operation_named, required_members, first_missing}
 use Rattle.desk_words.specs.Members.{first_unknown_member}
-use Rattle.desk_words.specs.Shapes.{OrFault, value_at, json_name, json_number, json_date, json_cut}
-use Rattle.desk_words.specs.Sets.{json_sets}
+use Rattle.desk_words.specs.Shapes.{OrFault}
+use Rattle.desk_words.specs.ReadRequests.{write_request, switch_request, manual_request}
+use Rattle.desk_words.specs.ReadRequests.{close_request, sweep_request, balance_request}
+use Rattle.desk_words.specs.ReadRequests.{doc_question}
 
 -- the JSON value of a line, where the line is UTF-8 and `serde_json` reads it
 unfoldable pub json_document : List ℕ → Option Data
@@ -48,69 +50,16 @@ check_present op object = none_or (option_map Missing (first_missing (required_m
 unfoldable pub check_known : Operation → Members → OrFault ⊤
 check_known op object = none_or (option_map UnknownMember (first_unknown_member op object))
 
--- the name at a member
-abbrev pub json_name_at : Member → Members → OrFault (List ℕ)
-json_name_at m object = value_at m (member_name m) object >>= json_name m
-
--- the number at a member
-abbrev pub json_number_at : Member → Members → OrFault ℕ
-json_number_at m object = value_at m (member_name m) object >>= json_number m
-
--- the date at a member
-abbrev pub json_date_at : Member → Members → OrFault ℕ
-json_date_at m object = value_at m (member_name m) object >>= json_date m
-
--- the sets at a member
-abbrev pub json_sets_at : Member → Members → OrFault (List SetText)
-json_sets_at m object = value_at m (member_name m) object >>= json_sets m
-
--- the cut that stands there, if one does
-abbrev pub cut_if : Option Data → OrFault (Option Cut)
-cut_if None = Ok None
-cut_if (Some d) = json_cut Cut_word d >>= λ cut. Ok (Some cut)
-
--- the cut, where the member stands; null is no cut
-unfoldable pub json_cut_at : Members → OrFault (Option Cut)
-json_cut_at object = cut_if (get_member (member_name Cut_word) object)
-
--- records given by hand, its members in order
-unfoldable pub manual_request : Members → OrFault Manual
-manual_request object = do
-  clerk ← json_name_at Clerk object
-  nr ← json_number_at No object
-  date ← json_date_at Date object
-  sets ← json_sets_at Sets object
-  Ok (record {
-    clerk = clerk;
-    no = nr;
-    doc = None;
-    key = None;
-    date = date;
-    sets = sets;
-    comment = None;
-    tx = None;
-  })
-
--- a question for a balance, its members in order
-unfoldable pub balance_request : Members → OrFault Balance
-balance_request object = do
-  clerk ← json_name_at Clerk object
-  register ← json_name_at Register object
-  cut ← json_cut_at object
-  Ok (record {
-    clerk = clerk;
-    register = register;
-    filter = None;
-    group = None;
-    cut = cut;
-    tx =
-        None;
-  })
-
 -- the members, by the operation
 unfoldable pub members_of : Operation → Members → OrFault Request
-members_of Manual_op object = manual_request object >>= λ r. Ok (Manual_request r)
-members_of Balance_op object = balance_request object >>= λ r. Ok (Balance_request r)
+members_of Write_op object = write_request object >>= λ r. Ok (Write r)
+members_of Mark_op object = switch_request object >>= λ r. Ok (Mark r)
+members_of Manual_op object = manual_request object >>= λ r. Ok (Manual r)
+members_of Activity_op object = switch_request object >>= λ r. Ok (Activity r)
+members_of Close_op object = close_request object >>= λ r. Ok (Close r)
+members_of Sweep_op object = sweep_request object >>= λ r. Ok (Sweep r)
+members_of Balance_op object = balance_request object >>= λ r. Ok (Balance r)
+members_of Doc_op object = doc_question object >>= λ r. Ok (Doc r)
 
 -- The request that an object is: its operation is asked first, then what it lacks, then what it
 -- has too much, then each member.

@@ -1,7 +1,7 @@
 -- The canonical text of a request.
 use Rattle.std.specs.Prelude.{ℕ, List, [], ◌∷◌, Option, Some, None, option_map, map, codes}
-use Rattle.serde_json.specs.Data.{Data, null, string, array, object, Members, no_members, member}
-use Rattle.serde_json.specs.Data.{put}
+use Rattle.serde_json.specs.Data.{Data, null, boolean, string, array, object, Members, no_members}
+use Rattle.serde_json.specs.Data.{member, put}
 use Rattle.serde_json.specs.View.{items_of}
 use Rattle.serde_json.specs.Written.{compact_text}
 use Rattle.reg_base.specs.Dates.{date_text}
@@ -10,10 +10,21 @@ use Rattle.reg_base.specs.declared.records.Mark.{Mark}
 use Rattle.reg_base.specs.declared.records.Mark.TheVariants.{Receipt, Expense, Turn}
 use Rattle.reg_base.specs.declared.records.Side.{Side}
 use Rattle.desk_words.specs.declared.request.Request.{Request}
+use Rattle.desk_words.specs.declared.request.Request.TheVariants.{Write as Write_request}
+use Rattle.desk_words.specs.declared.request.Request.TheVariants.{Mark as Mark_request}
 use Rattle.desk_words.specs.declared.request.Request.TheVariants.{Manual as Manual_request}
+use Rattle.desk_words.specs.declared.request.Request.TheVariants.{Activity as Activity_request}
+use Rattle.desk_words.specs.declared.request.Request.TheVariants.{Close as Close_request}
+use Rattle.desk_words.specs.declared.request.Request.TheVariants.{Sweep as Sweep_request}
 use Rattle.desk_words.specs.declared.request.Request.TheVariants.{Balance as Balance_request}
+use Rattle.desk_words.specs.declared.request.Request.TheVariants.{Doc as Doc_request}
+use Rattle.desk_words.specs.declared.request.Write.{Write}
+use Rattle.desk_words.specs.declared.request.Switch.{Switch}
 use Rattle.desk_words.specs.declared.request.Manual.{Manual}
+use Rattle.desk_words.specs.declared.request.Close.{Close}
+use Rattle.desk_words.specs.declared.request.Sweep.{Sweep}
 use Rattle.desk_words.specs.declared.request.Balance.{Balance}
+use Rattle.desk_words.specs.declared.request.DocQuestion.{DocQuestion}
 use Rattle.desk_words.specs.declared.request.SetText.{SetText}
 use Rattle.desk_words.specs.declared.request.FilterText.{FilterText}
 use Rattle.desk_words.specs.declared.request.RecordText.{RecordText}
@@ -21,6 +32,7 @@ use Rattle.desk_words.specs.declared.request.RecordText.TheVariants.{Register, L
 use Rattle.desk_words.specs.declared.request.RegisterText.{RegisterText}
 use Rattle.desk_words.specs.declared.request.LedgerText.{LedgerText}
 use Rattle.desk_words.specs.JsonValues.{whole, texts_data, put_if}
+use Rattle.desk_words.specs.FieldTexts.{fields_data, lines_data}
 
 -- the word of a mark
 abbrev pub mark_name : Mark → List ℕ
@@ -72,6 +84,35 @@ put_filters ms (filter ∷ filters) = put_filters (put filter.name (texts_data f
 abbrev pub filters_data : List FilterText → Data
 filters_data filters = object (put_filters no_members filters)
 
+-- the members that `write` always has
+unfoldable pub write_frame : Write → Members
+write_frame w =
+    member (codes "clerk") (string w.clerk)
+    (member (codes "date") (string (date_text w.date))
+    (member (codes "head") (fields_data w.head)
+    (member (codes "kind") (string w.kind)
+    (member (codes "lines") (lines_data w.lines)
+    (member (codes "no") (whole w.no)
+    (member (codes "op") (string (codes "write")) no_members))))))
+
+-- the members of `write`
+unfoldable pub write_members : Write → Members
+write_members w =
+    put_if (codes "tx") (option_map whole w.tx)
+    (put_if (codes "comment") (option_map string w.comment)
+    (put_if (codes "key") (option_map string w.key)
+    (put_if (codes "doc") (option_map whole w.doc) (write_frame w))))
+
+-- the members of `mark` and of `activity`, whose word is given
+unfoldable pub switch_members : List ℕ → Switch → Members
+switch_members op s =
+    put_if (codes "tx") (option_map whole s.tx)
+    (member (codes "clerk") (string s.clerk)
+    (member (codes "doc") (whole s.doc)
+    (member (codes "no") (whole s.no)
+    (member (codes "on") (boolean s.on)
+    (member (codes "op") (string op) no_members)))))
+
 -- the members that `manual` always has
 unfoldable pub manual_frame : Manual → Members
 manual_frame m =
@@ -89,6 +130,22 @@ manual_members m =
     (put_if (codes "key") (option_map string m.key)
     (put_if (codes "doc") (option_map whole m.doc) (manual_frame m))))
 
+-- the members of `close`
+unfoldable pub close_members : Close → Members
+close_members c =
+    member (codes "clerk") (string c.clerk)
+    (member (codes "date") (string (date_text c.date))
+    (member (codes "no") (whole c.no)
+    (member (codes "op") (string (codes "close")) no_members)))
+
+-- the members of `sweep`
+unfoldable pub sweep_members : Sweep → Members
+sweep_members s =
+    member (codes "clerk") (string s.clerk)
+    (member (codes "doc") (whole s.doc)
+    (member (codes "no") (whole s.no)
+    (member (codes "op") (string (codes "sweep")) no_members)))
+
 -- the members that `balance` always has
 unfoldable pub balance_frame : Balance → Members
 balance_frame b =
@@ -104,10 +161,24 @@ balance_members b =
     (put_if (codes "group") (option_map texts_data b.group)
     (put_if (codes "filter") (option_map filters_data b.filter) (balance_frame b))))
 
+-- the members of `doc`
+unfoldable pub doc_members : DocQuestion → Members
+doc_members d =
+    put_if (codes "tx") (option_map whole d.tx)
+    (member (codes "clerk") (string d.clerk)
+    (member (codes "doc") (whole d.doc)
+    (member (codes "op") (string (codes "doc")) no_members)))
+
 -- a request as JSON
 unfoldable pub request_data : Request → Data
+request_data (Write_request w) = object (write_members w)
+request_data (Mark_request s) = object (switch_members (codes "mark") s)
 request_data (Manual_request m) = object (manual_members m)
+request_data (Activity_request s) = object (switch_members (codes "activity") s)
+request_data (Close_request c) = object (close_members c)
+request_data (Sweep_request s) = object (sweep_members s)
 request_data (Balance_request b) = object (balance_members b)
+request_data (Doc_request d) = object (doc_members d)
 
 -- The canonical text of a request: compact JSON, members in byte order, dates in the long form,
 -- other texts as they were given, absent members absent.

@@ -1,16 +1,20 @@
 -- The shapes of members; the fault of a wrong one names the member that it stands in.
-use Rattle.std.specs.Prelude.{ℕ, ◌&&◌, List, [], ◌∷◌, option_and_then, Result, Ok, nat_le}
+use Rattle.std.specs.Prelude.{ℕ, Bool, ◌&&◌, List, [], ◌∷◌, Option, Some, None, option_and_then}
+use Rattle.std.specs.Prelude.{Result, Ok, nat_le}
 use Rattle.std.specs.Result.{result_ok}
 use Rattle.serde_json.specs.Data.{Data, Items, no_items, item, Members}
 use Rattle.serde_json.specs.Find.{get_member, as_object, as_array, as_str, as_number, as_u64}
+use Rattle.serde_json.specs.Find.{as_bool}
 use Rattle.reg_base.specs.Results.{◌>>=◌, some_or, unless}
 use Rattle.reg_base.specs.Codes.{is_name, is_code}
+use Rattle.reg_base.specs.Comments.{is_comment}
 use Rattle.reg_base.specs.Dates.{parse_date}
 use Rattle.reg_base.specs.Cuts.{parse_cut}
 use Rattle.reg_base.specs.declared.cut.Cut.{Cut}
 use Rattle.desk_words.specs.declared.fault.Member.{Member}
 use Rattle.desk_words.specs.declared.fault.WordFault.{WordFault}
 use Rattle.desk_words.specs.declared.fault.WordFault.TheVariants.{BadMember}
+use Rattle.desk_words.specs.Members.{member_name}
 
 -- a value, or why a line is no request
 abbrev pub OrFault : Type 0 → Type 0
@@ -23,6 +27,20 @@ value_at m name object = some_or (get_member name object) (BadMember m)
 -- what an object has under a name, by its shape
 abbrev pub shape_at : {X : Type 0} → (Data → OrFault X) → Member → List ℕ → Members → OrFault X
 shape_at shape m name object = value_at m name object >>= shape
+
+-- what stands at a member that is asked for, by its shape
+abbrev pub required_at : {X : Type 0} → (Member → Data → OrFault X) → Member → Members → OrFault X
+required_at shape m object = shape_at (shape m) m (member_name m) object
+
+-- what stands there, if anything does
+abbrev pub shape_if : {X : Type 0} → (Data → OrFault X) → Option Data → OrFault (Option X)
+shape_if shape None = Ok None
+shape_if shape (Some d) = shape d >>= λ x. Ok (Some x)
+
+-- what stands at a member that may be absent, by its shape; null is not absent
+abbrev pub optional_at : {X : Type 0} → (Member → Data → OrFault X) → Member → Members
+    → OrFault (Option X)
+optional_at shape m object = shape_if (shape m) (get_member (member_name m) object)
 
 -- an object
 unfoldable pub json_object : Member → Data → OrFault Members
@@ -49,6 +67,17 @@ json_code m d = do
   text ← json_text m d
   _ ← unless (is_code text) (BadMember m)
   Ok text
+
+-- a text that is a comment
+unfoldable pub json_comment : Member → Data → OrFault (List ℕ)
+json_comment m d = do
+  text ← json_text m d
+  _ ← unless (is_comment text) (BadMember m)
+  Ok text
+
+-- true or false
+unfoldable pub json_boolean : Member → Data → OrFault Bool
+json_boolean m d = some_or (as_bool d) (BadMember m)
 
 -- a text that is a date; a day alone is its first second
 unfoldable pub json_date : Member → Data → OrFault ℕ

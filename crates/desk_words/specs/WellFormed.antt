@@ -1,15 +1,31 @@
 -- Requests as they are read: names are names, numbers in range, texts UTF-8.
-use Rattle.std.specs.Prelude.{◌≡◌, ℕ, ◌≤◌, ◌<◌, true, None, IfSome, List}
+use Rattle.std.specs.Prelude.{◌≡◌, ℕ, ◌≤◌, ◌<◌, true, None, IfSome, List, map}
+use Rattle.std.specs.Cmp.Lexicographic.{slice_cmp}
 use Rattle.std.specs.List.{AllByRecursion}
+use Rattle.std.specs.List.Sorted.{IsStrictlySortedBy}
+use Rattle.std.specs.Ordering.{nat_cmp}
 use Rattle.std.specs.Str.{IsUtf8}
 use Rattle.reg_base.specs.Codes.{is_code, is_name}
+use Rattle.reg_base.specs.Comments.{is_comment}
 use Rattle.reg_base.specs.Cuts.{IsCut}
 use Rattle.reg_base.specs.declared.records.Side.{Side}
 use Rattle.desk_words.specs.declared.request.Request.{Request}
+use Rattle.desk_words.specs.declared.request.Request.TheVariants.{Write as Write_request}
+use Rattle.desk_words.specs.declared.request.Request.TheVariants.{Mark as Mark_request}
 use Rattle.desk_words.specs.declared.request.Request.TheVariants.{Manual as Manual_request}
+use Rattle.desk_words.specs.declared.request.Request.TheVariants.{Activity as Activity_request}
+use Rattle.desk_words.specs.declared.request.Request.TheVariants.{Close as Close_request}
+use Rattle.desk_words.specs.declared.request.Request.TheVariants.{Sweep as Sweep_request}
 use Rattle.desk_words.specs.declared.request.Request.TheVariants.{Balance as Balance_request}
+use Rattle.desk_words.specs.declared.request.Request.TheVariants.{Doc as Doc_request}
+use Rattle.desk_words.specs.declared.request.Write.{Write}
+use Rattle.desk_words.specs.declared.request.Switch.{Switch}
 use Rattle.desk_words.specs.declared.request.Manual.{Manual}
+use Rattle.desk_words.specs.declared.request.Close.{Close}
+use Rattle.desk_words.specs.declared.request.Sweep.{Sweep}
 use Rattle.desk_words.specs.declared.request.Balance.{Balance}
+use Rattle.desk_words.specs.declared.request.DocQuestion.{DocQuestion}
+use Rattle.desk_words.specs.declared.request.FieldText.{FieldText}
 use Rattle.desk_words.specs.declared.request.SetText.{SetText}
 use Rattle.desk_words.specs.declared.request.RecordText.{RecordText}
 use Rattle.desk_words.specs.declared.request.RecordText.TheVariants.{Register, Ledger}
@@ -21,6 +37,31 @@ IsName text = is_name text ≡ true
 
 abbrev pub IsCode : List ℕ → Type 0
 IsCode text = is_code text ≡ true
+
+-- the number of a request or of a document
+abbrev pub IsNumber : ℕ → Type 0
+IsNumber n = (1 ≤ n) × (n ≤ 4_294_967_295)
+
+-- a date from 2000 to 2099
+abbrev pub IsDate : ℕ → Type 0
+IsDate date = date < 3_155_760_000
+
+-- a comment that is UTF-8
+abbrev pub IsComment : List ℕ → Type 0
+IsComment text = (is_comment text ≡ true) × IsUtf8 text
+
+-- a text of a name
+abbrev pub IsFieldText : FieldText → Type 0
+IsFieldText field = IsName field.name × IsUtf8 field.text
+
+-- the names of fields
+abbrev pub field_names : List FieldText → List (List ℕ)
+field_names fields = map (λ field. field.name) fields
+
+-- fields in byte order of their names, each once
+abbrev pub AreFields : List FieldText → Type 0
+AreFields fields =
+    AllByRecursion IsFieldText fields × IsStrictlySortedBy (slice_cmp nat_cmp) (field_names fields)
 
 -- an account and extras that are codes
 abbrev pub IsSide : Side → Type 0
@@ -41,17 +82,50 @@ IsRecordText (Ledger r) = IsLedgerText r
 abbrev pub IsSetText : SetText → Type 0
 IsSetText set = IsName set.space × AllByRecursion IsRecordText set.records
 
+-- the members of `write` that are built are well formed, and the others absent
+pub record IsWriteRequest (w : Write) : Type 0 where
+  pub clerk : IsName w.clerk
+  pub number : IsNumber w.no
+  pub doc : IfSome w.doc IsNumber
+  pub key : IfSome w.key IsCode
+  pub alone : IfSome w.doc (λ _. w.key ≡ None)
+  pub kind : IsName w.kind
+  pub date : IsDate w.date
+  pub head : AreFields w.head
+  pub lines : AllByRecursion AreFields w.lines
+  pub comment : IfSome w.comment IsComment
+  pub no_tx : w.tx ≡ None
+
+-- the members of a switch that are built are well formed, and the others absent
+pub record IsSwitch (s : Switch) : Type 0 where
+  pub clerk : IsName s.clerk
+  pub number : IsNumber s.no
+  pub doc : IsNumber s.doc
+  pub no_tx : s.tx ≡ None
+
 -- the members of `manual` that are built are well formed, and the others absent
 pub record IsManualRequest (m : Manual) : Type 0 where
   pub clerk : IsName m.clerk
-  pub first : 1 ≤ m.no
-  pub last : m.no ≤ 4_294_967_295
-  pub date : m.date < 3_155_760_000
+  pub number : IsNumber m.no
+  pub doc : IfSome m.doc IsNumber
+  pub key : IfSome m.key IsCode
+  pub alone : IfSome m.doc (λ _. m.key ≡ None)
+  pub date : IsDate m.date
   pub sets : AllByRecursion IsSetText m.sets
-  pub no_doc : m.doc ≡ None
-  pub no_key : m.key ≡ None
-  pub no_comment : m.comment ≡ None
+  pub comment : IfSome m.comment IsComment
   pub no_tx : m.tx ≡ None
+
+-- the members of `close` are well formed
+pub record IsCloseRequest (c : Close) : Type 0 where
+  pub clerk : IsName c.clerk
+  pub number : IsNumber c.no
+  pub date : IsDate c.date
+
+-- the members of `sweep` are well formed
+pub record IsSweepRequest (s : Sweep) : Type 0 where
+  pub clerk : IsName s.clerk
+  pub number : IsNumber s.no
+  pub doc : IsNumber s.doc
 
 -- the members of `balance` that are built are well formed, and the others absent
 pub record IsBalanceRequest (b : Balance) : Type 0 where
@@ -62,7 +136,19 @@ pub record IsBalanceRequest (b : Balance) : Type 0 where
   pub no_group : b.group ≡ None
   pub no_tx : b.tx ≡ None
 
+-- the members of `doc` that are built are well formed, and the others absent
+pub record IsDocQuestion (d : DocQuestion) : Type 0 where
+  pub clerk : IsName d.clerk
+  pub doc : IsNumber d.doc
+  pub no_tx : d.tx ≡ None
+
 -- a request that a line can be
 abbrev pub IsRequest : Request → Type 0
+IsRequest (Write_request w) = IsWriteRequest w
+IsRequest (Mark_request s) = IsSwitch s
 IsRequest (Manual_request m) = IsManualRequest m
+IsRequest (Activity_request s) = IsSwitch s
+IsRequest (Close_request c) = IsCloseRequest c
+IsRequest (Sweep_request s) = IsSweepRequest s
 IsRequest (Balance_request b) = IsBalanceRequest b
+IsRequest (Doc_request d) = IsDocQuestion d

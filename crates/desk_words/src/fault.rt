@@ -3,7 +3,7 @@ ghost use Rattle.std.specs.Prelude.{◌≡◌};
 ghost use Rattle.desk_words.specs.Members.{member_name};
 ghost use Rattle.desk_words.specs.ReplyWords.{word_fault_number};
 
-use reg_base::Text;
+use reg_base::{Memory, Text};
 use std::alloc::{AllocError, AllocFailed};
 
 /// A member of a request, as a fault names it.
@@ -12,8 +12,15 @@ pub enum Member {
     Op,
     Clerk,
     No,
+    Doc,
+    Key,
+    Kind,
     Date,
+    Head,
+    Lines,
+    On,
     Sets,
+    Comment,
     Register,
     Cut,
 }
@@ -27,8 +34,15 @@ impl Member {
             Member::Op => "op",
             Member::Clerk => "clerk",
             Member::No => "no",
+            Member::Doc => "doc",
+            Member::Key => "key",
+            Member::Kind => "kind",
             Member::Date => "date",
+            Member::Head => "head",
+            Member::Lines => "lines",
+            Member::On => "on",
             Member::Sets => "sets",
+            Member::Comment => "comment",
             Member::Register => "register",
             Member::Cut => "cut",
         }
@@ -48,7 +62,9 @@ pub enum WordFault {
     Missing { member: Member },
     /// The least member, by bytes, that the operation does not have.
     UnknownMember { name: Text },
-    /// The first member that is not of its shape.
+    /// The first member, in the order of the operation's members, that is not of its shape. A key
+    /// beside a document's number is not, since a document keeps its key: so a number out of its
+    /// range is told before such a key, and a type that is no name behind it.
     BadMember { member: Member },
     /// Want of memory, which says nothing of the line.
     Memory,
@@ -90,6 +106,17 @@ impl<T: Drop> From<AllocFailed<T>> for WordFault {
     ghost from_gives = { λ _ e. e ≡ Memory };
 
     fn from(_refused: AllocFailed<T>) -> WordFault {
+        WordFault::Memory
+    }
+}
+
+impl From<Memory> for WordFault {
+    ghost use Rattle.std.specs.Prelude.{◌≡◌};
+    ghost use Rattle.desk_words.specs.declared.fault.WordFault.TheVariants.{Memory};
+
+    ghost from_gives = { λ _ e. e ≡ Memory };
+
+    fn from(_wanted: Memory) -> WordFault {
         WordFault::Memory
     }
 }

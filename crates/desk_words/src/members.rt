@@ -10,8 +10,14 @@ use crate::parsed::{Object, member};
 // What a line may ask for.
 #[derive(Clone, Copy)]
 pub(crate) enum Operation {
+    Write,
+    Mark,
     Manual,
+    Activity,
+    Close,
+    Sweep,
     Balance,
+    Doc,
 }
 
 impl Operation {
@@ -19,8 +25,14 @@ impl Operation {
         ensures { result ≡ operation_named name.now }
     {
         match name {
+            "write" => Some(Operation::Write),
+            "mark" => Some(Operation::Mark),
             "manual" => Some(Operation::Manual),
+            "activity" => Some(Operation::Activity),
+            "close" => Some(Operation::Close),
+            "sweep" => Some(Operation::Sweep),
             "balance" => Some(Operation::Balance),
+            "doc" => Some(Operation::Doc),
             _ => None,
         }
     }
@@ -30,6 +42,22 @@ impl Operation {
         ensures { result.now ≡ required_members self }
     {
         match self {
+            Operation::Write => &[
+                Member::Op,
+                Member::Clerk,
+                Member::No,
+                Member::Kind,
+                Member::Date,
+                Member::Head,
+                Member::Lines,
+            ],
+            Operation::Mark | Operation::Activity => &[
+                Member::Op,
+                Member::Clerk,
+                Member::No,
+                Member::Doc,
+                Member::On,
+            ],
             Operation::Manual => &[
                 Member::Op,
                 Member::Clerk,
@@ -37,7 +65,10 @@ impl Operation {
                 Member::Date,
                 Member::Sets,
             ],
+            Operation::Close => &[Member::Op, Member::Clerk, Member::No, Member::Date],
+            Operation::Sweep => &[Member::Op, Member::Clerk, Member::No, Member::Doc],
             Operation::Balance => &[Member::Op, Member::Clerk, Member::Register],
+            Operation::Doc => &[Member::Op, Member::Clerk, Member::Doc],
         }
     }
 
@@ -46,8 +77,9 @@ impl Operation {
         ensures { result.now ≡ optional_members self }
     {
         match self {
-            Operation::Manual => &[],
+            Operation::Write | Operation::Manual => &[Member::Doc, Member::Key, Member::Comment],
             Operation::Balance => &[Member::Cut],
+            _ => &[],
         }
     }
 }

@@ -3,20 +3,20 @@ ghost use Rattle.std.specs.Prelude.{IfOk};
 ghost use Rattle.serde_json.specs.View.{members_view};
 ghost use Rattle.reg_base.specs.Results.{Gives, Says};
 ghost use Rattle.desk_words.specs.declared.fault.WordFault.TheVariants.{Memory, UnknownMember};
-ghost use Rattle.desk_words.specs.Members.{member_name};
-ghost use Rattle.desk_words.specs.Shapes.{shape_at};
-ghost use Rattle.desk_words.specs.Reading.{operation_of, check_present, check_known, json_cut_at};
-ghost use Rattle.desk_words.specs.Reading.{manual_request, balance_request, members_of, request_in};
-ghost use Rattle.desk_words.specs.Reading.{request_of_text, request};
+ghost use Rattle.desk_words.specs.Reading.{operation_of, check_present, check_known, members_of};
+ghost use Rattle.desk_words.specs.Reading.{request_in, request_of_text, request};
 ghost use Rattle.desk_words.specs.WellFormed.{IsRequest};
 
 use crate::fault::{Member, WordFault};
 use crate::members::{Operation, first_missing, first_unknown_member};
 use crate::parsed::{Object, json_document, member};
-use crate::request::{Balance, Manual, Request};
-use crate::shapes::{FromJson, json_cut, read_at};
+use crate::read_requests::{
+    balance_request, close_request, doc_question, manual_request, sweep_request, switch_request,
+    write_request,
+};
+use crate::request::Request;
 use json_laws::value_has_utf8;
-use reg_base::{Cut, Line, Text};
+use reg_base::{Line, Text};
 use std::alloc::Global;
 
 impl Request {
@@ -103,63 +103,13 @@ fn members_of(alloc: Global, operation: Operation, object: &Object) -> Result<Re
     ensures { Gives Memory result (members_of operation (members_view object.now.entries)) }
 {
     match operation {
+        Operation::Write => Ok(Request::Write(write_request(alloc, object)?)),
+        Operation::Mark => Ok(Request::Mark(switch_request(alloc, object)?)),
         Operation::Manual => Ok(Request::Manual(manual_request(alloc, object)?)),
+        Operation::Activity => Ok(Request::Activity(switch_request(alloc, object)?)),
+        Operation::Close => Ok(Request::Close(close_request(alloc, object)?)),
+        Operation::Sweep => Ok(Request::Sweep(sweep_request(alloc, object)?)),
         Operation::Balance => Ok(Request::Balance(balance_request(alloc, object)?)),
-    }
-}
-
-#[tactic(auto, unfolding(crate::specs::Reading::manual_request))]
-fn manual_request(alloc: Global, object: &Object) -> Result<Manual, WordFault>
-    ensures { Gives Memory result (manual_request (members_view object.now.entries)) }
-{
-    let clerk = read_member(alloc, Member::Clerk, object)?;
-    let no = read_member(alloc, Member::No, object)?;
-    let date = read_member(alloc, Member::Date, object)?;
-    let sets = read_member(alloc, Member::Sets, object)?;
-    Ok(Manual {
-        clerk,
-        no,
-        doc: None,
-        key: None,
-        date,
-        sets,
-        comment: None,
-        tx: None,
-    })
-}
-
-#[tactic(auto, unfolding(crate::specs::Reading::balance_request))]
-fn balance_request(alloc: Global, object: &Object) -> Result<Balance, WordFault>
-    ensures { Gives Memory result (balance_request (members_view object.now.entries)) }
-{
-    let clerk = read_member(alloc, Member::Clerk, object)?;
-    let register = read_member(alloc, Member::Register, object)?;
-    let cut = json_cut_at(object)?;
-    Ok(Balance {
-        clerk,
-        register,
-        filter: None,
-        group: None,
-        cut,
-        tx: None,
-    })
-}
-
-// What the object has at one of the members that an operation asks for.
-fn read_member<X: FromJson>(alloc: Global, member: Member, object: &Object) -> Result<X, WordFault>
-    ensures { Gives Memory result
-        (shape_at (X.reads member) member (member_name member) (members_view object.now.entries)) }
-{
-    read_at(alloc, member, member.name(), object)
-}
-
-// The cut, where the member stands at all.
-#[tactic(auto, unfolding(crate::specs::Reading::json_cut_at))]
-fn json_cut_at(object: &Object) -> Result<Option<Cut>, WordFault>
-    ensures { Gives Memory result (json_cut_at (members_view object.now.entries)) }
-{
-    match member(object, Member::Cut.name()) {
-        Some(value) => Ok(Some(json_cut(Member::Cut, value)?)),
-        None => Ok(None),
+        Operation::Doc => Ok(Request::Doc(doc_question(alloc, object)?)),
     }
 }

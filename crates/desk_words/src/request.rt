@@ -4,8 +4,65 @@ use reg_base::{Code, Comment, Cut, Date, List, Mark, Name, Side, Text};
 /// What a line asks for.
 #[derive(Drop)]
 pub enum Request {
+    Write(Write),
+    Mark(Switch),
     Manual(Manual),
+    Activity(Switch),
+    Close(Close),
+    Sweep(Sweep),
     Balance(Balance),
+    Doc(DocQuestion),
+}
+
+/// Write a document of a type, or give a written one new content.
+#[derive(Drop)]
+pub struct Write {
+    pub clerk: Name,
+    /// The request's number among those of its clerk, from 1.
+    pub no: u32,
+    /// The document whose content this replaces; absent for a new one.
+    pub doc: Option<u32>,
+    /// The key of a new document. A document keeps its key.
+    pub key: Option<Code>,
+    /// The document's type.
+    pub kind: Name,
+    pub date: Date,
+    pub head: List<FieldText>,
+    pub lines: List<List<FieldText>>,
+    pub comment: Option<Comment>,
+    /// The open transaction that the request is of.
+    pub tx: Option<u8>,
+}
+
+/// Switch something of a document on or off: its mark for deletion, or its activity.
+#[derive(Drop)]
+pub struct Switch {
+    pub clerk: Name,
+    /// The request's number among those of its clerk, from 1.
+    pub no: u32,
+    pub doc: u32,
+    pub on: bool,
+    /// The open transaction that the request is of.
+    pub tx: Option<u8>,
+}
+
+/// Close the books before a date.
+#[derive(Drop)]
+pub struct Close {
+    pub clerk: Name,
+    /// The request's number among those of its clerk, from 1.
+    pub no: u32,
+    /// What is dated before it changes no more.
+    pub date: Date,
+}
+
+/// Remove a document that is marked for deletion.
+#[derive(Drop)]
+pub struct Sweep {
+    pub clerk: Name,
+    /// The request's number among those of its clerk, from 1.
+    pub no: u32,
+    pub doc: u32,
 }
 
 /// Make a document of the given records.
@@ -79,4 +136,13 @@ pub struct FilterText {
 pub struct FieldText {
     pub name: Name,
     pub text: Text,
+}
+
+/// Show a document with its records.
+#[derive(Drop)]
+pub struct DocQuestion {
+    pub clerk: Name,
+    pub doc: u32,
+    /// The open transaction that the request is of.
+    pub tx: Option<u8>,
 }

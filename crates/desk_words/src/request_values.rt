@@ -5,15 +5,15 @@ ghost use Rattle.serde_json.specs.View.{view, items_of, members_view};
 ghost use Rattle.desk_words.specs.JsonValues.{texts_data};
 ghost use Rattle.desk_words.specs.RequestTexts.{mark_name as mark_name_of, side_data};
 ghost use Rattle.desk_words.specs.RequestTexts.{register_data, ledger_data, record_data, set_data};
-ghost use Rattle.desk_words.specs.RequestTexts.{sets_data, filters_data, manual_frame};
-ghost use Rattle.desk_words.specs.RequestTexts.{manual_members, balance_frame, balance_members};
-ghost use Rattle.desk_words.specs.RequestTexts.{request_data};
+ghost use Rattle.desk_words.specs.RequestTexts.{sets_data, filters_data, balance_frame};
+ghost use Rattle.desk_words.specs.RequestTexts.{balance_members, request_data};
 
+use crate::command_values::{
+    close_members, doc_members, manual_members, sweep_members, switch_members, write_members,
+};
 use crate::json_values::{ToJson, array_value, push_items, put_some, put_text, put_value, text};
 use crate::parsed::Object;
-use crate::request::{
-    Balance, FilterText, LedgerText, Manual, RecordText, RegisterText, Request, SetText,
-};
+use crate::request::{Balance, FilterText, LedgerText, RecordText, RegisterText, Request, SetText};
 use reg_base::{List, Mark, Memory, Side};
 use serde_json::Value as Json;
 use std::alloc::Global;
@@ -24,35 +24,17 @@ pub(crate) fn request_value(alloc: Global, request: &Request) -> Result<Json, Me
     ensures { IfOk result (λ v. view v ≡ request_data request.now) }
 {
     match request {
+        Request::Write(write) => Ok(Json::Object(write_members(alloc, write)?)),
+        Request::Mark(mark) => Ok(Json::Object(switch_members(alloc, "mark", mark)?)),
         Request::Manual(manual) => Ok(Json::Object(manual_members(alloc, manual)?)),
+        Request::Activity(activity) => {
+            Ok(Json::Object(switch_members(alloc, "activity", activity)?))
+        }
+        Request::Close(close) => Ok(Json::Object(close_members(alloc, close)?)),
+        Request::Sweep(sweep) => Ok(Json::Object(sweep_members(alloc, sweep)?)),
         Request::Balance(balance) => Ok(Json::Object(balance_members(alloc, balance)?)),
+        Request::Doc(doc) => Ok(Json::Object(doc_members(alloc, doc)?)),
     }
-}
-
-#[tactic(auto, unfolding(crate::specs::RequestTexts::manual_members))]
-fn manual_members(alloc: Global, manual: &Manual) -> Result<Object, Memory>
-    ensures { IfOk result (λ m. members_view m.entries ≡ manual_members manual.now) }
-{
-    let mut members = manual_frame(alloc, manual)?;
-    put_some(alloc, &mut members, "doc", &manual.doc)?;
-    put_some(alloc, &mut members, "key", &manual.key)?;
-    put_some(alloc, &mut members, "comment", &manual.comment)?;
-    put_some(alloc, &mut members, "tx", &manual.tx)?;
-    Ok(members)
-}
-
-// The members that are never absent.
-#[tactic(auto, unfolding(crate::specs::RequestTexts::manual_frame))]
-fn manual_frame(alloc: Global, manual: &Manual) -> Result<Object, Memory>
-    ensures { IfOk result (λ m. members_view m.entries ≡ manual_frame manual.now) }
-{
-    let mut members = Object::new(alloc);
-    put_value(alloc, &mut members, "clerk", &manual.clerk)?;
-    put_value(alloc, &mut members, "date", &manual.date)?;
-    put_value(alloc, &mut members, "no", &manual.no)?;
-    put_text(alloc, &mut members, "op", "manual")?;
-    put_value(alloc, &mut members, "sets", &manual.sets)?;
-    Ok(members)
 }
 
 #[tactic(auto, unfolding(crate::specs::RequestTexts::balance_members))]

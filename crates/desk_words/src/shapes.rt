@@ -1,5 +1,5 @@
 //! The shapes of members. A wrong one is told by the member that it stands in.
-ghost use Rattle.std.specs.Prelude.{◌≡◌, Result, option_map};
+ghost use Rattle.std.specs.Prelude.{◌≡◌, Result};
 ghost use Rattle.serde_json.specs.Data.{Data};
 ghost use Rattle.serde_json.specs.View.{view, items_view, members_view};
 ghost use Rattle.reg_base.specs.Results.{some_or, Gives, GivesAs};
@@ -8,11 +8,12 @@ ghost use Rattle.desk_words.specs.declared.fault.WordFault.{WordFault as FaultOf
 ghost use Rattle.desk_words.specs.declared.fault.WordFault.TheVariants.{Memory};
 ghost use Rattle.desk_words.specs.Shapes.{value_at, shape_at, json_object, json_items, json_text};
 ghost use Rattle.desk_words.specs.Shapes.{json_name, json_code, json_date, json_cut, json_number};
-ghost use Rattle.desk_words.specs.Shapes.{json_list, json_texts};
+ghost use Rattle.desk_words.specs.Shapes.{json_list, json_texts, json_comment, json_boolean};
+ghost use Rattle.desk_words.specs.Shapes.{required_at, optional_at};
 
 use crate::fault::{Member, WordFault};
 use crate::parsed::{Object, member};
-use reg_base::{Code, Cut, Date, List, Name, Text};
+use reg_base::{Code, Comment, Cut, Date, List, Name, Text};
 use serde_json::Value;
 use std::alloc::Global;
 
@@ -36,6 +37,31 @@ pub(crate) fn read_at<X: FromJson>(
         (shape_at (X.reads within) within name.now (members_view object.now.entries)) }
 {
     X::from_json(alloc, within, value_at(within, name, object)?)
+}
+
+// What an object has at one of the members that an operation asks for.
+pub(crate) fn read_member<X: FromJson>(
+    alloc: Global,
+    within: Member,
+    object: &Object,
+) -> Result<X, WordFault>
+    ensures { Gives Memory result (required_at X.reads within (members_view object.now.entries)) }
+{
+    read_at(alloc, within, within.name(), object)
+}
+
+// What an object has at a member that may be absent; null is not absent.
+pub(crate) fn read_optional<X: FromJson>(
+    alloc: Global,
+    within: Member,
+    object: &Object,
+) -> Result<Option<X>, WordFault>
+    ensures { Gives Memory result (optional_at X.reads within (members_view object.now.entries)) }
+{
+    match member(object, within.name()) {
+        Some(value) => Ok(Some(X::from_json(alloc, within, value)?)),
+        None => Ok(None),
+    }
 }
 
 // What an object has under a name.
@@ -168,13 +194,40 @@ impl FromJson for u32 {
     }
 }
 
-#[tactic(auto, unfolding(crate::specs::Shapes::json_cut))]
-pub(crate) fn json_cut(within: Member, value: &Value) -> Result<Cut, WordFault>
-    ensures { Gives Memory result (json_cut within (view value.now)) }
-{
-    let text = json_text(within, value)?;
-    match Cut::parse(text) {
-        Ok(cut) => Ok(cut),
-        Err(_) => Err(WordFault::BadMember { member: within }),
+impl FromJson for Comment {
+    ghost reads = { json_comment };
+
+    #[tactic(auto, unfolding(crate::specs::Shapes::json_comment))]
+    fn from_json(alloc: Global, within: Member, value: &Value) -> Result<Comment, WordFault> {
+        let text = json_text(within, value)?;
+        match Comment::parse(alloc, text)? {
+            Some(comment) => Ok(comment),
+            None => Err(WordFault::BadMember { member: within }),
+        }
+    }
+}
+
+impl FromJson for bool {
+    ghost reads = { json_boolean };
+
+    #[tactic(auto, unfolding(crate::specs::Shapes::json_boolean))]
+    fn from_json(_alloc: Global, within: Member, value: &Value) -> Result<bool, WordFault> {
+        match value.as_bool() {
+            Some(is_on) => Ok(is_on),
+            None => Err(WordFault::BadMember { member: within }),
+        }
+    }
+}
+
+impl FromJson for Cut {
+    ghost reads = { json_cut };
+
+    #[tactic(auto, unfolding(crate::specs::Shapes::json_cut))]
+    fn from_json(_alloc: Global, within: Member, value: &Value) -> Result<Cut, WordFault> {
+        let text = json_text(within, value)?;
+        match Cut::parse(text) {
+            Ok(cut) => Ok(cut),
+            Err(_) => Err(WordFault::BadMember { member: within }),
+        }
     }
 }

@@ -11,6 +11,8 @@
 #![tactic(auto)]
 
 #[cfg(test)]
+mod document_tests;
+#[cfg(test)]
 mod print_tests;
 #[cfg(test)]
 mod reply_tests;

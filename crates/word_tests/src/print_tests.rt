@@ -2,6 +2,7 @@
 use crate::rows::{Frame, expect};
 use desk_words::Request;
 use std::alloc::Global;
+use std::process::Abort;
 
 const MARKED: Frame = [">", ""];
 
@@ -60,10 +61,15 @@ fn canonical(alloc: Global, line: &str) -> Option<String> {
     }
 }
 
+// Asks for the canonical text of each line, and that it is its own.
+pub(crate) fn expect_texts(rt: &impl Abort, alloc: Global, rows: &[(&str, &str)]) {
+    for (line, text) in rows {
+        expect(rt, line, canonical(alloc, line), &MARKED, text);
+        expect(rt, text, canonical(alloc, text), &MARKED, text);
+    }
+}
+
 #[test]
 fn a_request_has_its_canonical_text(rt: HostRuntime) {
-    for (line, text) in TEXTS {
-        expect(&rt, line, canonical(rt.alloc(), line), &MARKED, text);
-        expect(&rt, text, canonical(rt.alloc(), text), &MARKED, text);
-    }
+    expect_texts(&rt, rt.alloc(), TEXTS);
 }

@@ -32,26 +32,31 @@ pub(crate) fn told_of(alloc: Global, line: &Line) -> Option<String> {
 }
 
 // What a user is told of the bytes of a line.
-fn told(alloc: Global, bytes: &[u8]) -> Option<String> {
+pub(crate) fn told(alloc: Global, bytes: &[u8]) -> Option<String> {
     let bytes = List::from_slice(alloc, bytes).ok()?;
     told_of(alloc, &Line::Text { bytes })
 }
 
 // Asks for the refusal of each line, from what stands between its number and its name.
-fn expect_bad_lines(rt: &impl Abort, alloc: Global, rows: &[(&str, &str)]) {
+pub(crate) fn expect_bad_lines(rt: &impl Abort, alloc: Global, rows: &[(&str, &str)]) {
     for (line, kind) in rows {
         expect(rt, line, told(alloc, line.as_bytes()), &BAD_LINE, kind);
     }
 }
 
 // What is told of a line that stands behind a front, and in front of a brace.
-fn told_behind(alloc: Global, front: &str, rest: &str) -> Option<String> {
+pub(crate) fn told_behind(alloc: Global, front: &str, rest: &str) -> Option<String> {
     let line = format!(in alloc; "{front}{rest}}}").ok()?;
     told(alloc, line.as_bytes())
 }
 
 // Asks for the same of lines with one front.
-fn expect_bad_behind(rt: &impl Abort, alloc: Global, front: &str, rows: &[(&str, &str)]) {
+pub(crate) fn expect_bad_behind(
+    rt: &impl Abort,
+    alloc: Global,
+    front: &str,
+    rows: &[(&str, &str)],
+) {
     for (rest, kind) in rows {
         expect(rt, rest, told_behind(alloc, front, rest), &BAD_LINE, kind);
     }

@@ -3,8 +3,8 @@ use Rattle.desk_model.specs.Manuals.{space_of}
 use Rattle.desk_core.proofs.ReadingLemmas.{length-each}
 use Rattle.desk_core.proofs.manual.given_sets.Goals as goal
 
-pub with_sets-requires-clause-places : goal.with_sets-requires-clause-places
-with_sets-requires-clause-places c =
-    ap length c.as_slice-2.ensures
-    ∙ length-each (space_of c.args.config.now) c.as_slice-sets.result.now c.in_ok-places.places
-    (sym c.in_ok-places.ensures)
+pub sets_in-requires : goal.sets_in-requires
+sets_in-requires c =
+    ap length c.as_slice.ensures
+    ∙ length-each (space_of c.args.config.now) c.args.sets.now c.in_ok-spaces.spaces
+    (sym c.in_ok-spaces.ensures)

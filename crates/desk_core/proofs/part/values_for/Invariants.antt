@@ -1,6 +1,6 @@
 -- What was read of the parts so far stands before what is left to be read.
 use Rattle.std.proofs.Common.{◌≡◌, drop}
-use Rattle.desk_model.specs.Manuals.{values_for}
+use Rattle.desk_model.specs.GivenRecords.{values_for}
 use Rattle.desk_core.proofs.PartLemmas.{behind}
 use Rattle.desk_core.proofs.part.values_for.Given as goal
 

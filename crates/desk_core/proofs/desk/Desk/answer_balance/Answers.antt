@@ -23,16 +23,17 @@ returns-clause-value c =
     λ n cut documents. sum_rows n None
     (filter (λ b. inside cut (point_of b)) (flat_map (booked_by c.in-Some.place) documents)) in
     let rows : c.in_ok-rows.rows ≡ shown (length register.resources)
-    (unwrap_or c.args.balance.now.cut Now) c.self.inside.documents.items =
+    (unwrap_or c.args.balance.now.cut Now) c.self.inside.store.documents =
     c.in_ok-rows.ensures
     ∙ (λ i. shown (length (c.as_slice-resources.ensures i)) (c.unwrap_or-cut.ensures i)
-    (c.deref.ensures.value i)) in
+    (c.documents.ensures.walk i)) in
     let scales : c.in_ok-scales.scales ≡ map (λ (r : Resource). r.scale) register.resources =
     c.in_ok-scales.ensures ∙ ap (map (λ (r : Resource). r.scale)) c.as_slice-resources.ensures in
     let answered = question_answer-balance
     (record {
-      documents = c.self.inside.documents.items;
+      documents = c.self.inside.store.documents;
       top = c.self.inside.top;
+      closed = c.self.inside.closed;
       lasts = c.self.inside.lasts.items;
     })
     c.self.inside.config c.args.balance.now c.in-Some.place register

@@ -7,7 +7,7 @@ use Rattle.desk_model.specs.Desk.{meaning_at, effect_at, step}
 use Rattle.desk_core.specs.declared.outcome.Outcome.{Outcome}
 use Rattle.desk_core.specs.declared.outcome.Prepared.{Prepared}
 use Rattle.desk_core.specs.Outcomes.{Comes, Prepares, last_with}
-use Rattle.desk_core.proofs.PlanLemmas.{IfOk-three, step-reply, step-replies, step-changes}
+use Rattle.desk_core.proofs.StepLemmas.{IfOk-three, step-reply, step-replies, step-changes}
 use Rattle.desk_core.proofs.desk.Desk.prepare.Goals as goal
 
 pub prepare_reply-requires : goal.prepare_reply-requires

@@ -1,41 +1,53 @@
--- The document stands behind the others.
-use Rattle.std.proofs.Common.{◌≡◌, ◌+◌, ◌<◌, List, ap, ◌∙◌, sym, subst}
+use Rattle.std.proofs.Common.{◌≡◌, ◌≤◌, [], ◌∷◌, None, List, ◌∙◌, ap, sym, subst, arith}
 use Rattle.reg_base.specs.declared.records.Document.{Document}
-use Rattle.desk_model.specs.State.{Desk}
-use Rattle.desk_model.specs.Desk.{greatest_number}
-use Rattle.desk_core.specs.declared.outcome.Change.TheVariants.{Put}
+use Rattle.reg_base.specs.Documents.{with_document}
+use Rattle.doc_store.specs.declared.staged.Staged.TheVariants.{Put}
+use Rattle.doc_store.specs.Stores.{Stored}
+use Rattle.desk_core.specs.DeskViews.{DeskView}
 use Rattle.desk_core.specs.Invariants.{AreKept}
-use Rattle.desk_core.specs.DeskViews.{DeskView, IsNext, changed}
-use Rattle.desk_core.proofs.PlanLemmas.{AreKept-next, changed-behind}
+use Rattle.desk_core.proofs.KeptLemmas.{IsKept-staged, AreKept-with}
 use Rattle.desk_core.proofs.desk.Desk.put.Goals as goal
 
-pub invariant_of-self : goal.invariant_of-self
-invariant_of-self c =
+pub invariant_of-self-then-self-number : goal.invariant_of-self-then-self-number
+invariant_of-self-then-self-number c =
+    let store = c.self.inside.store in
     let document = c.args.document in
-    let next : IsNext c.args.self.now.desk document = c.requires.next in
-    let top : c.self.inside.top ≡ c.args.self.now.desk.serial.top =
-    ap (λ (v : DeskView). v.desk.serial.top) c.self.view_is in
-    subst (λ (ds : List Document). AreKept ds document.doc.number) (sym c.put_behind.ensures)
-    (AreKept-next c.self.inside.documents.items c.self.inside.top document c.self.invariant
-    (next.number ∙ ap (λ n. n + 1) (sym top))
-    (subst (λ n. n < greatest_number) (sym top) next.left) next.short)
+    let same : c.args.self.now.desk.serial.documents ≡ store.documents =
+    ap (λ (v : DeskView). v.desk.serial.documents) (sym c.self.view_is) in
+    let staged = c.stage.ensures
+    ∙ ap (λ (s : Stored). record s
+    { staged = Put (record { doc = document.doc; sets = document.sets }) ∷ []; room = None })
+    c.in_ok-room.ensures.ok in
+    let above : c.self.inside.top ≤ document.doc.number = omega (arith, c.if-self-number.true) in
+    IsKept-staged c.self.inside.config store c.stage.new.self c.keep.new.self
+    (Put document) c.self.inside.top c.self.inside.records c.self.invariant
+    staged c.keep.ensures document.doc.number c.records_with-records.result
+    (subst (λ (ds : List Document). AreKept (with_document document ds) document.doc.number
+    c.records_with-records.result) same
+    (AreKept-with c.args.self.now.desk document c.self.inside.top c.self.inside.records
+    document.doc.number c.records_with-records.result
+    (subst (λ (ds : List Document). AreKept ds c.self.inside.top c.self.inside.records)
+    (sym same) c.self.invariant.kept) c.requires above (omega arith)
+    c.records_with-records.ensures))
 
-pub returns-clause-desk : goal.returns-clause-desk
-returns-clause-desk c =
+pub invariant_of-self-else-self-number : goal.invariant_of-self-else-self-number
+invariant_of-self-else-self-number c =
+    let store = c.self.inside.store in
     let document = c.args.document in
-    let inner : Desk = record {
-      setting = record { config = c.self.inside.config };
-      serial = record {
-        documents = c.self.inside.documents.items;
-        top = c.self.inside.top;
-        lasts = c.self.inside.lasts.items;
-      };
-    } in
-    let same : inner ≡ c.args.self.now.desk = ap (λ (v : DeskView). v.desk) c.self.view_is in
-    let next : IsNext inner document =
-    subst (λ (d : Desk). IsNext d document) (sym same) c.requires.next in
-    ap (λ (ds : List Document). record inner
-    { serial = record inner.serial { documents = ds; top = document.doc.number } })
-    c.put_behind.ensures
-    ∙ changed-behind inner document c.self.invariant.numbered next.number
-    ∙ ap (λ (d : Desk). changed d (Put document)) same
+    let same : c.args.self.now.desk.serial.documents ≡ store.documents =
+    ap (λ (v : DeskView). v.desk.serial.documents) (sym c.self.view_is) in
+    let staged = c.stage.ensures
+    ∙ ap (λ (s : Stored). record s
+    { staged = Put (record { doc = document.doc; sets = document.sets }) ∷ []; room = None })
+    c.in_ok-room.ensures.ok in
+    let own : document.doc.number ≤ c.self.inside.top = omega (arith, c.if-self-number.false) in
+    IsKept-staged c.self.inside.config store c.stage.new.self c.keep.new.self
+    (Put document) c.self.inside.top c.self.inside.records c.self.invariant
+    staged c.keep.ensures c.self.inside.top c.records_with-records.result
+    (subst (λ (ds : List Document). AreKept (with_document document ds) c.self.inside.top
+    c.records_with-records.result) same
+    (AreKept-with c.args.self.now.desk document c.self.inside.top c.self.inside.records
+    c.self.inside.top c.records_with-records.result
+    (subst (λ (ds : List Document). AreKept ds c.self.inside.top c.self.inside.records)
+    (sym same) c.self.invariant.kept) c.requires (omega arith) own
+    c.records_with-records.ensures))

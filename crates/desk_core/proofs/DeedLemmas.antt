@@ -1,0 +1,68 @@
+-- What a change comes to, from what its plan comes to.
+use Rattle.std.proofs.Common.{◌≡◌, ℕ, Bool, true, false, cond, Option, Some, None, is_none, List}
+use Rattle.std.proofs.Common.{Result, Ok, Err, IfOk, refl, sym, subst}
+use Rattle.reg_base.specs.Results.{◌>>=◌, unless}
+use Rattle.desk_words.specs.declared.request.Request.{Request}
+use Rattle.desk_words.specs.declared.reply.Reply.{Reply}
+use Rattle.desk_words.specs.declared.reply.Refusal.TheVariants.{UnknownClerk, NotAllowed}
+use Rattle.desk_words.specs.RequestTexts.{request_text}
+use Rattle.desk_model.specs.Clerks.{is_clerk, is_allowed}
+use Rattle.desk_model.specs.LastRequests.{number_test}
+use Rattle.desk_words.specs.declared.reply.Refusal.{Refusal}
+use Rattle.desk_model.specs.declared.plan.Plan.{Plan}
+use Rattle.desk_model.specs.State.{State, Desk}
+use Rattle.desk_model.specs.Plans.{Sight}
+use Rattle.desk_model.specs.Effects.{Tests}
+use Rattle.desk_model.specs.Stops.{Stop, refuses, or_stop}
+use Rattle.desk_model.specs.Serial.{change_effect, effect_of}
+use Rattle.desk_model.specs.Desk.{next_number, meaning_at, effect_at, reply_at}
+use Rattle.desk_core.specs.declared.outcome.Outcome.{Outcome}
+use Rattle.desk_core.specs.declared.outcome.Outcome.TheVariants.{Replies}
+use Rattle.desk_core.specs.Outcomes.{Comes, planned_effect, deed_at, stop_reply}
+use Rattle.desk_core.specs.Sights.{drawn_for, sight_at}
+
+-- a new document draws the next number
+pub drawn-new : (state : State) (doc : Option ℕ) →
+    cond (is_none doc) (next_number state) 0 ≡ drawn_for state doc
+drawn-new state None = refl
+drawn-new state (Some number) = refl
+
+pub change-comes : {F : Type 0} (desk : Desk) (tests : Tests) (number : ℕ) (doc : Option ℕ)
+    (key : Option (List ℕ)) (plan : Sight → Result Plan Refusal) (sight : Sight)
+    (result : Result Outcome F) → number ≡ drawn_for desk.serial doc →
+    sight ≡ sight_at desk.serial doc key →
+    IfOk result (Comes desk (or_stop (planned_effect desk tests sight (plan sight)))) →
+    IfOk result (Comes desk (or_stop (change_effect tests desk.setting desk.serial number
+    (record { doc = doc; key = key; plan = plan }))))
+unfolding change_effect
+change-comes desk tests number doc key plan sight result drawn same comes =
+    subst (λ n. IfOk result (Comes desk (or_stop (change_effect tests desk.setting desk.serial n
+    (record { doc = doc; key = key; plan = plan }))))) (sym drawn)
+    (subst (λ (s : Sight). IfOk result (Comes desk (or_stop
+    (planned_effect desk tests s (plan s))))) same comes)
+
+-- a number that is not above the clerk's last one stops the request
+pub number-stops : (desk : Desk) (request : Request) (reply : Reply) →
+    is_clerk desk.setting.config (meaning_at desk request).clerk ≡ true →
+    is_allowed desk.setting.config (meaning_at desk request).clerk
+    (meaning_at desk request).right ≡ true →
+    Some reply ≡ stop_reply (number_test desk.serial.lasts (meaning_at desk request).clerk
+    (meaning_at desk request).number (request_text request)) →
+    Comes desk (effect_at desk request) (Replies reply)
+unfolding effect_of
+number-stops desk request reply known allowed stopped =
+    at (is_clerk desk.setting.config (meaning_at desk request).clerk)
+    (is_allowed desk.setting.config (meaning_at desk request).clerk
+    (meaning_at desk request).right) known allowed
+    (number_test desk.serial.lasts (meaning_at desk request).clerk
+    (meaning_at desk request).number (request_text request)) stopped
+  where
+    at : (is_known is_allowed : Bool) → is_known ≡ true → is_allowed ≡ true →
+        (test : Result (Unit {0}) Stop) → Some reply ≡ stop_reply test →
+        Comes desk (unless is_known (refuses UnknownClerk) >>= λ _. unless is_allowed
+        (refuses (NotAllowed (meaning_at desk request).right)) >>= λ _. test >>= λ _. or_stop
+        (deed_at desk request (request_text request))) (Replies reply)
+    at true true k a (Ok u) h = cc
+    at true true k a (Err stop) h = let same : reply_at stop ≡ reply = cc in same
+    at true false k a test h = cc
+    at false allowed k a test h = cc

@@ -1,0 +1,269 @@
+//! What a request comes to: who asks is looked at, then its number, then what it does.
+ghost use Rattle.std.specs.Prelude.{◌≡◌, ◌≤◌, ◌-◌, ℕ, List, length, Some, None, Ok, Err, IfOk, Result};
+ghost use Rattle.reg_base.specs.Documents.{document_at, holder_of};
+ghost use Rattle.std.specs.Option.{ForSome, option_copied};
+ghost use Rattle.std.specs.Prelude.{option_and_then};
+ghost use Rattle.desk_words.specs.declared.request.Request.TheVariants as RequestIs;
+ghost use Rattle.desk_words.specs.declared.reply.Refusal.{Refusal as RefusalOf};
+ghost use Rattle.desk_words.specs.WellFormed.{IsRequest};
+ghost use Rattle.desk_model.specs.declared.plan.Plan.{Plan as PlanOf};
+ghost use Rattle.desk_model.specs.Plans.{Meaning};
+ghost use Rattle.desk_model.specs.Stops.{or_stop};
+ghost use Rattle.desk_model.specs.Serial.{plan_effect};
+ghost use Rattle.desk_model.specs.declared.plan.Source.TheVariants.{Removed};
+ghost use Rattle.desk_model.specs.Limits.{records_before, record_count as record_count_of};
+ghost use Rattle.desk_model.specs.Desk.{effect_at, tests_of};
+ghost use Rattle.desk_core.specs.Invariants.{HasShortLists};
+ghost use Rattle.desk_core.specs.Outcomes.{Comes, IsPut, deed_at, made_effect, planned_effect};
+ghost use Rattle.desk_core.specs.Sights.{sight_view, sight_at, drawn_for, IsSightOf, Suits};
+ghost use Rattle.desk_core.specs.Tries.{Tries};
+
+use crate::clerks::{clerk_of, is_allowed, is_clerk, right_of};
+use crate::counts::record_count;
+use crate::desk::Desk;
+use crate::documents::document_from;
+use crate::manual::plan_manual;
+use crate::numbers::number_reply;
+use crate::outcome::{Outcome, close_outcome, document_outcome, refusal_outcome, removal_outcome};
+use crate::plans::{plan_activity, plan_mark, plan_sweep, plan_write};
+use crate::sight::Sight;
+use crate::tried::{PartFault, Tried};
+use desk_model::Plan;
+use desk_words::{Manual, Refusal, Request, Sweep, Switch, Write};
+use reg_base::{Code, Document, Memory};
+use std::alloc::Global;
+
+impl Desk {
+    // What the request comes to, before anything is committed.
+    #[tactic(auto, unfolding(desk_model::specs::Serial::effect_of))]
+    pub(crate) fn outcome(&self, alloc: Global, request: &Request) -> Result<Outcome, Memory>
+        requires { IsRequest request.now }
+        ensures { IfOk result (Comes self.now.desk (effect_at self.now.desk request.now)) }
+    {
+        let clerk = clerk_of(request);
+        if !is_clerk(&self.config, clerk) {
+            return Ok(refusal_outcome(Refusal::UnknownClerk));
+        }
+        let right = right_of(request);
+        if !is_allowed(&self.config, clerk, right) {
+            return Ok(refusal_outcome(Refusal::NotAllowed { right }));
+        }
+        match number_reply(alloc, &self.lasts, request)? {
+            Some(reply) => Ok(Outcome::Replies(reply)),
+            None => self.deed_outcome(alloc, request),
+        }
+    }
+
+    // What the request does, once its clerk, his right and its number were asked.
+    fn deed_outcome(&self, alloc: Global, request: &Request) -> Result<Outcome, Memory>
+        ensures { (text : List ℕ) → IfOk result
+            (Comes self.now.desk (or_stop (deed_at self.now.desk request.now text))) }
+    {
+        match request {
+            Request::Write(write) => self.write_outcome(alloc, write),
+            Request::Mark(switch) => self.mark_outcome(alloc, switch),
+            Request::Manual(manual) => self.manual_outcome(alloc, manual),
+            Request::Activity(switch) => self.activity_outcome(alloc, switch),
+            Request::Close(close) => Ok(close_outcome(close.date)),
+            Request::Sweep(sweep) => self.sweep_outcome(alloc, sweep),
+            Request::Balance(balance) => self.balance_outcome(alloc, balance),
+            Request::Doc(question) => self.show_outcome(alloc, question),
+        }
+    }
+
+    // What it comes to that a document of a type is written.
+    #[tactic(auto, unfolding(desk_model::specs::Serial::change_effect))]
+    fn write_outcome(&self, alloc: Global, write: &Write) -> Result<Outcome, Memory>
+        ensures { (text : List ℕ) → IfOk result (Comes self.now.desk
+            (or_stop (deed_at self.now.desk (RequestIs.Write write.now) text))) }
+    {
+        let sight = self.sight(write.doc, &write.key);
+        let plan = plan_write(alloc, &self.config, write, &sight);
+        self.planned(alloc, &sight, plan)
+    }
+
+    // What it comes to that records are given by hand.
+    #[tactic(auto, unfolding(desk_model::specs::Serial::change_effect))]
+    fn manual_outcome(&self, alloc: Global, manual: &Manual) -> Result<Outcome, Memory>
+        ensures { (text : List ℕ) → IfOk result (Comes self.now.desk
+            (or_stop (deed_at self.now.desk (RequestIs.Manual manual.now) text))) }
+    {
+        let sight = self.sight(manual.doc, &manual.key);
+        let plan = plan_manual(alloc, &self.config, manual, &sight);
+        self.planned(alloc, &sight, plan)
+    }
+
+    // What it comes to that a document is marked for deletion, or loses its mark.
+    #[tactic(auto, unfolding(desk_model::specs::Serial::change_effect))]
+    fn mark_outcome(&self, alloc: Global, switch: &Switch) -> Result<Outcome, Memory>
+        ensures { (text : List ℕ) → IfOk result (Comes self.now.desk
+            (or_stop (deed_at self.now.desk (RequestIs.Mark switch.now) text))) }
+    {
+        let sight = self.sight(Some(switch.doc), &None);
+        let plan = plan_mark(alloc, switch, &sight);
+        self.planned(alloc, &sight, plan)
+    }
+
+    // What it comes to that the records of a document are made to count, or not.
+    #[tactic(auto, unfolding(desk_model::specs::Serial::change_effect))]
+    fn activity_outcome(&self, alloc: Global, switch: &Switch) -> Result<Outcome, Memory>
+        ensures { (text : List ℕ) → IfOk result (Comes self.now.desk
+            (or_stop (deed_at self.now.desk (RequestIs.Activity switch.now) text))) }
+    {
+        let sight = self.sight(Some(switch.doc), &None);
+        let plan = plan_activity(alloc, switch, &sight);
+        self.planned(alloc, &sight, plan)
+    }
+
+    // What it comes to that a marked document is removed.
+    #[tactic(auto, unfolding(desk_model::specs::Serial::change_effect))]
+    fn sweep_outcome(&self, alloc: Global, sweep: &Sweep) -> Result<Outcome, Memory>
+        ensures { (text : List ℕ) → IfOk result (Comes self.now.desk
+            (or_stop (deed_at self.now.desk (RequestIs.Sweep sweep.now) text))) }
+    {
+        let sight = self.sight(Some(sweep.doc), &None);
+        let plan = plan_sweep(alloc, &sight);
+        self.planned(alloc, &sight, plan)
+    }
+
+    // What a change of this document, or of a new one with this key, sees.
+    fn sight(&self, doc: Option<u32>, key: &Option<Code>) -> Sight<'_>
+        ensures { sight_view result ≡ sight_at self.now.desk.serial doc key.now }
+    {
+        Sight {
+            before: self.named_document(doc),
+            holder: self.key_holder(key),
+            closed: self.closed,
+            drawn: self.drawn_number(doc),
+        }
+    }
+
+    // The document that is named, where there is one.
+    fn named_document(&self, doc: Option<u32>) -> Option<&Document>
+        ensures { option_copied result
+            ≡ option_and_then (λ n. document_at n self.now.desk.serial.documents) doc }
+    {
+        match doc {
+            Some(number) => self.store.document(number),
+            None => None,
+        }
+    }
+
+    // The document that has the key, where one is given.
+    fn key_holder(&self, key: &Option<Code>) -> Option<u32>
+        ensures { result
+            ≡ option_and_then (λ k. holder_of k self.now.desk.serial.documents) key.now }
+    {
+        match key {
+            Some(key) => self.store.by_key(None, key),
+            None => None,
+        }
+    }
+
+    // The number that is drawn for a new document, and 0 where none is left or one is named.
+    fn drawn_number(&self, doc: Option<u32>) -> u32
+        ensures { result ≡ drawn_for self.now.desk.serial doc }
+    {
+        match doc {
+            Some(_) => 0,
+            None => self.top.checked_add(1).unwrap_or(0),
+        }
+    }
+
+    // What a plan comes to, or its refusal.
+    fn planned(
+        &self,
+        alloc: Global,
+        sight: &Sight<'_>,
+        plan: Tried<Plan>,
+    ) -> Result<Outcome, Memory>
+        requires seen { IsSightOf self.now.desk.serial (sight_view sight.now) }
+        requires suits { IfOk plan (Suits (sight_view sight.now)) }
+        ensures { (planned : Result PlanOf RefusalOf) (meaning : Meaning) (text : List ℕ)
+            → Tries plan planned → IfOk result (Comes self.now.desk (or_stop
+            (planned_effect self.now.desk (tests_of self.now.desk meaning text)
+            (sight_view sight.now) planned))) }
+    {
+        match plan {
+            Ok(plan) => self.plan_outcome(alloc, sight, plan),
+            Err(PartFault::Refused(refusal)) => Ok(refusal_outcome(refusal)),
+            Err(PartFault::Memory) => Err(Memory),
+        }
+    }
+
+    // What a plan comes to: its document is made, and the limits are asked.
+    #[tactic(auto, unfolding(desk_model::specs::Serial::plan_effect))]
+    fn plan_outcome(&self, alloc: Global, sight: &Sight<'_>, plan: Plan) -> Result<Outcome, Memory>
+        requires seen { IsSightOf self.now.desk.serial (sight_view sight.now) }
+        requires suits { Suits (sight_view sight.now) plan }
+        ensures { (meaning : Meaning) (text : List ℕ) → IfOk result (Comes self.now.desk (or_stop
+            (plan_effect (tests_of self.now.desk meaning text) self.now.desk.setting
+            self.now.desk.serial (sight_view sight.now).drawn (sight_view sight.now) plan))) }
+    {
+        let number = plan.doc.number;
+        let lines = plan.doc.lines.len();
+        match document_from(alloc, &self.config, sight.before, plan) {
+            Ok(Some(document)) => Ok(self.put_outcome(sight, lines, document)),
+            Ok(None) => Ok(self.remove_outcome(sight, lines, number)),
+            Err(PartFault::Refused(refusal)) => Ok(self.refused_outcome(sight, lines, refusal)),
+            Err(PartFault::Memory) => Err(Memory),
+        }
+    }
+
+    // What a document comes to that a plan made: it is put, where no limit is passed.
+    fn put_outcome(&self, sight: &Sight<'_>, lines: usize, document: Document) -> Outcome
+        requires seen { IsSightOf self.now.desk.serial (sight_view sight.now) }
+        requires short { HasShortLists document }
+        ensures { (plan : PlanOf) → length plan.doc.lines ≡ lines → plan.doc ≡ document.doc
+            → Suits (sight_view sight.now) plan → IsPut plan.source
+            → Comes self.now.desk (or_stop (made_effect self.now.desk (sight_view sight.now) plan
+            (Ok (Some document)))) result }
+    {
+        let records = self.records + growth(sight.before, &document);
+        match self.limit_passed(sight, lines, records) {
+            Some(refusal) => refusal_outcome(refusal),
+            None => document_outcome(document),
+        }
+    }
+
+    // What it comes to that a plan removes the document of a number.
+    fn remove_outcome(&self, sight: &Sight<'_>, lines: usize, number: u32) -> Outcome
+        requires seen { IsSightOf self.now.desk.serial (sight_view sight.now) }
+        ensures { (plan : PlanOf) → length plan.doc.lines ≡ lines → plan.doc.number ≡ number
+            → Suits (sight_view sight.now) plan → plan.source ≡ Removed
+            → Comes self.now.desk (or_stop (made_effect self.now.desk (sight_view sight.now) plan
+            (Ok None))) result }
+    {
+        match self.limit_passed(sight, lines, self.records) {
+            Some(refusal) => refusal_outcome(refusal),
+            None => removal_outcome(number),
+        }
+    }
+
+    // What it comes to that no records can be made for a plan: a limit that is passed comes first.
+    fn refused_outcome(&self, sight: &Sight<'_>, lines: usize, refusal: Refusal) -> Outcome
+        ensures { (plan : PlanOf) → length plan.doc.lines ≡ lines
+            → Comes self.now.desk (or_stop (made_effect self.now.desk (sight_view sight.now) plan
+            (Err refusal))) result }
+    {
+        match self.limit_passed(sight, lines, self.records) {
+            Some(passed) => refusal_outcome(passed),
+            None => refusal_outcome(refusal),
+        }
+    }
+}
+
+// By how many records a document grows beyond the one before.
+fn growth(before: Option<&Document>, document: &Document) -> u32
+    requires before { ForSome (option_copied before) HasShortLists }
+    requires document { HasShortLists document.now }
+    ensures value { result
+        ≡ record_count_of document.now - records_before (option_copied before.entry) }
+    ensures few { result ≤ 200_000 }
+{
+    let count = record_count(document);
+    match before {
+        Some(before) => count.saturating_sub(record_count(before)),
+        None => count,
+    }
+}

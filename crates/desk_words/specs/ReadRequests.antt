@@ -1,0 +1,121 @@
+-- Each request from its members, which are read in their order: so the first that is not of its
+-- shape is told.
+use Rattle.std.specs.Prelude.{ℕ, ◌||◌, List, Option, None, is_none, Ok}
+use Rattle.serde_json.specs.Data.{Members}
+use Rattle.reg_base.specs.Results.{◌>>=◌, unless}
+use Rattle.desk_words.specs.declared.fault.Member.TheVariants.{Clerk, No, Doc, Key, Kind, Date}
+use Rattle.desk_words.specs.declared.fault.Member.TheVariants.{Head, Lines, On, Sets, Comment}
+use Rattle.desk_words.specs.declared.fault.Member.TheVariants.{Register, Cut}
+use Rattle.desk_words.specs.declared.fault.WordFault.TheVariants.{BadMember}
+use Rattle.desk_words.specs.declared.request.Write.{Write}
+use Rattle.desk_words.specs.declared.request.Switch.{Switch}
+use Rattle.desk_words.specs.declared.request.Manual.{Manual}
+use Rattle.desk_words.specs.declared.request.Close.{Close}
+use Rattle.desk_words.specs.declared.request.Sweep.{Sweep}
+use Rattle.desk_words.specs.declared.request.Balance.{Balance}
+use Rattle.desk_words.specs.declared.request.DocQuestion.{DocQuestion}
+use Rattle.desk_words.specs.Shapes.{OrFault, required_at, optional_at, json_name, json_code}
+use Rattle.desk_words.specs.Shapes.{json_number, json_date, json_cut, json_boolean, json_comment}
+use Rattle.desk_words.specs.Sets.{json_sets}
+use Rattle.desk_words.specs.Fields.{json_fields, json_lines}
+
+-- The key of a document. Only a new document is given one, so that a key beside a number is
+-- refused, whatever its shape.
+unfoldable pub key_beside : Option ℕ → Members → OrFault (Option (List ℕ))
+key_beside doc object = do
+  key ← optional_at json_code Key object
+  _ ← unless (is_none doc || is_none key) (BadMember Key)
+  Ok key
+
+-- new content of a document
+unfoldable pub write_request : Members → OrFault Write
+write_request object = do
+  clerk ← required_at json_name Clerk object
+  nr ← required_at json_number No object
+  doc ← optional_at json_number Doc object
+  key ← key_beside doc object
+  kind ← required_at json_name Kind object
+  date ← required_at json_date Date object
+  head ← required_at json_fields Head object
+  lines ← required_at json_lines Lines object
+  comment ← optional_at json_comment Comment object
+  Ok (record {
+    clerk = clerk;
+    no = nr;
+    doc = doc;
+    key = key;
+    kind = kind;
+    date = date;
+    head = head;
+    lines = lines;
+    comment = comment;
+    tx = None;
+  })
+
+-- a switch of a document
+unfoldable pub switch_request : Members → OrFault Switch
+switch_request object = do
+  clerk ← required_at json_name Clerk object
+  nr ← required_at json_number No object
+  doc ← required_at json_number Doc object
+  on ← required_at json_boolean On object
+  Ok (record { clerk = clerk; no = nr; doc = doc; on = on; tx = None })
+
+-- records given by hand
+unfoldable pub manual_request : Members → OrFault Manual
+manual_request object = do
+  clerk ← required_at json_name Clerk object
+  nr ← required_at json_number No object
+  doc ← optional_at json_number Doc object
+  key ← key_beside doc object
+  date ← required_at json_date Date object
+  sets ← required_at json_sets Sets object
+  comment ← optional_at json_comment Comment object
+  Ok (record {
+    clerk = clerk;
+    no = nr;
+    doc = doc;
+    key = key;
+    date = date;
+    sets = sets;
+    comment = comment;
+    tx = None;
+  })
+
+-- the books closed
+unfoldable pub close_request : Members → OrFault Close
+close_request object = do
+  clerk ← required_at json_name Clerk object
+  nr ← required_at json_number No object
+  date ← required_at json_date Date object
+  Ok (record { clerk = clerk; no = nr; date = date })
+
+-- a document removed
+unfoldable pub sweep_request : Members → OrFault Sweep
+sweep_request object = do
+  clerk ← required_at json_name Clerk object
+  nr ← required_at json_number No object
+  doc ← required_at json_number Doc object
+  Ok (record { clerk = clerk; no = nr; doc = doc })
+
+-- a question for a balance
+unfoldable pub balance_request : Members → OrFault Balance
+balance_request object = do
+  clerk ← required_at json_name Clerk object
+  register ← required_at json_name Register object
+  cut ← optional_at json_cut Cut object
+  Ok (record {
+    clerk = clerk;
+    register = register;
+    filter = None;
+    group = None;
+    cut = cut;
+    tx = None;
+  })
+
+-- a question for a document
+unfoldable pub doc_question : Members → OrFault DocQuestion
+doc_question object = do
+  clerk ← required_at json_name Clerk object
+  doc ← required_at json_number Doc object
+  Ok (record { clerk = clerk; doc = doc; tx = None })

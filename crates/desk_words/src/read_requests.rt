@@ -1,0 +1,146 @@
+//! Each request from its members, read in their order.
+ghost use Rattle.serde_json.specs.View.{members_view};
+ghost use Rattle.reg_base.specs.Results.{Gives};
+ghost use Rattle.desk_words.specs.declared.fault.WordFault.TheVariants.{Memory};
+ghost use Rattle.desk_words.specs.ReadRequests.{key_beside, write_request, switch_request};
+ghost use Rattle.desk_words.specs.ReadRequests.{manual_request, close_request, sweep_request};
+ghost use Rattle.desk_words.specs.ReadRequests.{balance_request, doc_question};
+
+use crate::fault::{Member, WordFault};
+use crate::parsed::Object;
+use crate::request::{Balance, Close, DocQuestion, Manual, Sweep, Switch, Write};
+use crate::shapes::{read_member, read_optional};
+use reg_base::Code;
+use std::alloc::Global;
+
+// The key of a document. Only a new document is given one, so that a key beside a number is
+// refused.
+#[tactic(auto, unfolding(crate::specs::ReadRequests::key_beside))]
+fn key_beside(alloc: Global, doc: &Option<u32>, object: &Object) -> Result<Option<Code>, WordFault>
+    ensures { Gives Memory result (key_beside doc.now (members_view object.now.entries)) }
+{
+    let key = read_optional(alloc, Member::Key, object)?;
+    if doc.is_some() && key.is_some() {
+        return Err(WordFault::BadMember {
+            member: Member::Key,
+        });
+    }
+    Ok(key)
+}
+
+#[tactic(auto, unfolding(crate::specs::ReadRequests::write_request))]
+pub(crate) fn write_request(alloc: Global, object: &Object) -> Result<Write, WordFault>
+    ensures { Gives Memory result (write_request (members_view object.now.entries)) }
+{
+    let clerk = read_member(alloc, Member::Clerk, object)?;
+    let no = read_member(alloc, Member::No, object)?;
+    let doc = read_optional(alloc, Member::Doc, object)?;
+    let key = key_beside(alloc, &doc, object)?;
+    let kind = read_member(alloc, Member::Kind, object)?;
+    let date = read_member(alloc, Member::Date, object)?;
+    let head = read_member(alloc, Member::Head, object)?;
+    let lines = read_member(alloc, Member::Lines, object)?;
+    let comment = read_optional(alloc, Member::Comment, object)?;
+    Ok(Write {
+        clerk,
+        no,
+        doc,
+        key,
+        kind,
+        date,
+        head,
+        lines,
+        comment,
+        tx: None,
+    })
+}
+
+#[tactic(auto, unfolding(crate::specs::ReadRequests::switch_request))]
+pub(crate) fn switch_request(alloc: Global, object: &Object) -> Result<Switch, WordFault>
+    ensures { Gives Memory result (switch_request (members_view object.now.entries)) }
+{
+    let clerk = read_member(alloc, Member::Clerk, object)?;
+    let no = read_member(alloc, Member::No, object)?;
+    let doc = read_member(alloc, Member::Doc, object)?;
+    let on = read_member(alloc, Member::On, object)?;
+    Ok(Switch {
+        clerk,
+        no,
+        doc,
+        on,
+        tx: None,
+    })
+}
+
+#[tactic(auto, unfolding(crate::specs::ReadRequests::manual_request))]
+pub(crate) fn manual_request(alloc: Global, object: &Object) -> Result<Manual, WordFault>
+    ensures { Gives Memory result (manual_request (members_view object.now.entries)) }
+{
+    let clerk = read_member(alloc, Member::Clerk, object)?;
+    let no = read_member(alloc, Member::No, object)?;
+    let doc = read_optional(alloc, Member::Doc, object)?;
+    let key = key_beside(alloc, &doc, object)?;
+    let date = read_member(alloc, Member::Date, object)?;
+    let sets = read_member(alloc, Member::Sets, object)?;
+    let comment = read_optional(alloc, Member::Comment, object)?;
+    Ok(Manual {
+        clerk,
+        no,
+        doc,
+        key,
+        date,
+        sets,
+        comment,
+        tx: None,
+    })
+}
+
+#[tactic(auto, unfolding(crate::specs::ReadRequests::close_request))]
+pub(crate) fn close_request(alloc: Global, object: &Object) -> Result<Close, WordFault>
+    ensures { Gives Memory result (close_request (members_view object.now.entries)) }
+{
+    let clerk = read_member(alloc, Member::Clerk, object)?;
+    let no = read_member(alloc, Member::No, object)?;
+    let date = read_member(alloc, Member::Date, object)?;
+    Ok(Close { clerk, no, date })
+}
+
+#[tactic(auto, unfolding(crate::specs::ReadRequests::sweep_request))]
+pub(crate) fn sweep_request(alloc: Global, object: &Object) -> Result<Sweep, WordFault>
+    ensures { Gives Memory result (sweep_request (members_view object.now.entries)) }
+{
+    let clerk = read_member(alloc, Member::Clerk, object)?;
+    let no = read_member(alloc, Member::No, object)?;
+    let doc = read_member(alloc, Member::Doc, object)?;
+    Ok(Sweep { clerk, no, doc })
+}
+
+#[tactic(auto, unfolding(crate::specs::ReadRequests::balance_request))]
+pub(crate) fn balance_request(alloc: Global, object: &Object) -> Result<Balance, WordFault>
+    ensures { Gives Memory result (balance_request (members_view object.now.entries)) }
+{
+    let clerk = read_member(alloc, Member::Clerk, object)?;
+    let register = read_member(alloc, Member::Register, object)?;
+    let cut = read_optional(alloc, Member::Cut, object)?;
+    Ok(Balance {
+        clerk,
+        register,
+        filter: None,
+        group: None,
+        cut,
+        tx: None,
+    })
+}
+
+#[tactic(auto, unfolding(crate::specs::ReadRequests::doc_question))]
+pub(crate) fn doc_question(alloc: Global, object: &Object) -> Result<DocQuestion, WordFault>
+    ensures { Gives Memory result (doc_question (members_view object.now.entries)) }
+{
+    let clerk = read_member(alloc, Member::Clerk, object)?;
+    let doc = read_member(alloc, Member::Doc, object)?;
+    Ok(DocQuestion {
+        clerk,
+        doc,
+        tx: None,
+    })
+}
