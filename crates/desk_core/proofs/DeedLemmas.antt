@@ -19,7 +19,7 @@ use Rattle.desk_model.specs.Desk.{next_number, meaning_at, effect_at, reply_at}
 use Rattle.desk_core.specs.declared.outcome.Outcome.{Outcome}
 use Rattle.desk_core.specs.declared.outcome.Outcome.TheVariants.{Replies}
 use Rattle.desk_core.specs.Outcomes.{Comes, planned_effect, deed_at, stop_reply}
-use Rattle.desk_core.specs.Sights.{drawn_for, sight_at}
+use Rattle.desk_core.specs.SeenStates.{drawn_for, sight_at}
 
 -- a new document draws the next number
 pub drawn-new : (state : State) (doc : Option ℕ) →

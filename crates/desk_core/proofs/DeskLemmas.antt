@@ -1,7 +1,8 @@
 -- What the desk machine does, from what a request comes to.
 use Rattle.std.proofs.Common.{◌≡◌, ℕ, ◌+◌, ◌<◌, ◌≤◌, true, ◌&&◌, Some, None, List, [], ◌∷◌, ◌++◌}
 use Rattle.std.proofs.Common.{map, filter, length, slice_get, unwrap_or, All, Ok, refl, ap, ◌∙◌}
-use Rattle.std.proofs.Common.{sym, arith}
+use Rattle.std.proofs.Common.{sym, arith, take, get_or}
+use Rattle.std.proofs.lemmas.List.{map_more}
 use Rattle.std.proofs.lemmas.List.Elements.{All-head, All-tail}
 use Rattle.std.specs.List.{flat_map}
 use Rattle.std.specs.Cmp.{nat_cmp_is}
@@ -82,3 +83,13 @@ question_answer-balance serial config b place register p g balance rows r scales
     (ap (λ xs. Ok (BalanceAnswer xs (map (λ x. x.scale) register.resources)))
     (sym (rows-everything (length register.resources) place serial.documents register
     (unwrap_or b.cut Now))))
+
+-- one more element is taken over
+pub taken-more : {A B : Type 0} (f : A → B) (front new : List B) (xs : List A) (i : ℕ) (x : A) →
+    i < length xs → x ≡ get_or xs i x → new ≡ front ++ f x ∷ [] → front ≡ map f (take i xs) →
+    new ≡ map f (take (i + 1) xs)
+taken-more f front new xs i x below is pushed so_far =
+    pushed
+    ∙ (λ j. so_far j ++ f x ∷ [])
+    ∙ ap (λ y. map f (take i xs) ++ f y ∷ []) is
+    ∙ sym (map_more f xs i x below)

@@ -9,7 +9,8 @@ use Rattle.doc_store.specs.Stores.{Stored, kept, with_staged}
 use Rattle.desk_model.specs.Limits.{record_count, records_in, records_before}
 use Rattle.desk_model.specs.State.{Desk}
 use Rattle.desk_core.specs.DeskViews.{Fits}
-use Rattle.desk_core.specs.Invariants.{HasShortLists, AreKept, IsKept}
+use Rattle.desk_core.specs.Invariants.{AreKept, IsKept}
+use Rattle.desk_plans.specs.ShortLists.{HasShortLists}
 use Rattle.desk_core.proofs.DocumentLists.{All-at, All-with, All-without, records-without}
 use Rattle.desk_core.proofs.DocumentLists.{records-with, length-without}
 

@@ -1,17 +1,12 @@
 pub mod DeedLemmas
 pub mod DeskLemmas
 pub mod DocumentLists
-pub mod FieldLemmas
 pub mod KeptLemmas
 pub mod LastLemmas
 pub mod LimitLemmas
 pub mod LineLemmas
-pub mod PartLemmas
 pub mod PlanLemmas
 pub mod RaiseLemmas
-pub mod ReadingLemmas
 pub mod RowLemmas
 pub mod SetLemmas
-pub mod ShortLemmas
-pub mod ShownLemmas
 pub mod StepLemmas

@@ -15,7 +15,8 @@ use Rattle.desk_model.specs.Limits.{number_is_left, greatest_number, most_docume
 -- ---- the chain of the limits
 
 -- four tests, each asked in its turn
-abbrev chain : (documents records lines number : Result (Unit {0}) Refusal) → Result (Unit {0}) Refusal
+abbrev chain : (documents records lines number : Result (Unit {0}) Refusal) →
+    Result (Unit {0}) Refusal
 chain documents records lines number =
     documents >>= λ _. records >>= λ _. lines >>= λ _. number
 

@@ -26,10 +26,12 @@ use Rattle.desk_model.specs.Effects.{effect_with, acknowledgement_of, documents_
 use Rattle.desk_model.specs.Stops.{or_stop}
 use Rattle.desk_core.specs.declared.outcome.Change.TheVariants.{Put, Remove}
 use Rattle.desk_core.specs.declared.outcome.Outcome.TheVariants.{Changes}
-use Rattle.desk_core.specs.Invariants.{HasShortLists, AreKept}
+use Rattle.desk_core.specs.Invariants.{AreKept}
+use Rattle.desk_plans.specs.ShortLists.{HasShortLists}
 use Rattle.desk_core.specs.DeskViews.{Fits}
 use Rattle.desk_core.specs.Outcomes.{Comes, IsPut, Leaves, made_effect}
-use Rattle.desk_core.specs.Sights.{IsSightOf, Suits, RemovesOne, sight_at}
+use Rattle.desk_plans.specs.Sights.{Suits, RemovesOne}
+use Rattle.desk_core.specs.SeenStates.{IsSightOf, sight_at}
 use Rattle.desk_core.proofs.DocumentLists.{number-at, All-at, records-with, length-with}
 
 -- ---- what is seen

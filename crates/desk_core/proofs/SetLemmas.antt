@@ -12,7 +12,7 @@ use Rattle.reg_base.specs.declared.records.Rec.{Rec}
 use Rattle.reg_base.specs.declared.records.SumRow.{SumRow}
 use Rattle.reg_base.specs.declared.records.Document.{Document}
 use Rattle.reg_base.specs.Records.{Booked, is_posted, booked_by}
-use Rattle.desk_core.specs.Invariants.{HasShortLists}
+use Rattle.desk_plans.specs.ShortLists.{HasShortLists}
 use Rattle.desk_core.specs.Rows.{booked, AddsUp}
 
 module _ (p : Booked → Bool) (f : Rec → Booked) (set : List Rec) where

@@ -12,7 +12,7 @@ use Rattle.desk_model.specs.Desk.{step}
 use Rattle.desk_core.specs.declared.outcome.Change.{Change}
 use Rattle.desk_core.specs.declared.outcome.Change.TheVariants.{Put, Remove, Close}
 use Rattle.desk_core.specs.declared.outcome.Entry.{Entry}
-use Rattle.desk_core.specs.Invariants.{HasShortLists}
+use Rattle.desk_plans.specs.ShortLists.{HasShortLists}
 
 -- the desk of the machine, and for how many further last requests there is room
 pub record DeskView : Type 0 where

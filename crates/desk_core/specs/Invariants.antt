@@ -4,18 +4,8 @@ use Rattle.reg_base.specs.declared.records.Document.{Document}
 use Rattle.cfg_model.specs.declared.config.Config.{Config}
 use Rattle.cfg_model.specs.Limits.{IsWithinLimits}
 use Rattle.doc_store.specs.Stores.{Stored}
+use Rattle.desk_plans.specs.ShortLists.{HasShortLists}
 use Rattle.desk_model.specs.Limits.{records_in, most_documents, most_kept_records}
-
--- no set has more than 5,000 records or entries
-abbrev pub AreShort : {X : Type 0} → List (List X) → Type 0
-AreShort sets = All (λ set. length set ≤ 5_000) sets
-
--- a document has no more sets than a configuration has registers and ledgers, and all are short
-pub record HasShortLists (d : Document) : Type 0 where
-  pub registers : length d.sets.registers ≤ 32
-  pub ledgers : length d.sets.ledgers ≤ 8
-  pub records : AreShort d.sets.registers
-  pub entries : AreShort d.sets.ledgers
 
 -- documents have numbers up to the greatest one that was drawn, their records are counted, and
 -- neither are more than there may be

@@ -1,9 +1,6 @@
-pub mod Contents
 pub mod DeskViews
 pub mod Invariants
 pub mod Lines
 pub mod Outcomes
 pub mod Rows
-pub mod ShownSets
-pub mod Sights
-pub mod Tries
+pub mod SeenStates

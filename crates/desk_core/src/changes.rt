@@ -4,10 +4,10 @@ ghost use Rattle.reg_base.specs.Documents.{with_document, without_document};
 ghost use Rattle.desk_model.specs.Limits.{records_in};
 ghost use Rattle.desk_core.specs.declared.outcome.Change.TheVariants as ChangeIs;
 ghost use Rattle.desk_core.specs.DeskViews.{Fits, changed};
-ghost use Rattle.desk_core.specs.Invariants.{HasShortLists};
+ghost use Rattle.desk_plans.specs.ShortLists.{HasShortLists};
 
-use crate::counts::record_count;
 use crate::desk::Desk;
+use desk_plans::record_count;
 use reg_base::{Date, Document, Memory};
 
 impl Desk {
@@ -26,9 +26,7 @@ impl Desk {
         self.store.stage(0, doc, sets);
         self.store.keep(0);
         self.records = records;
-        if self.top < number {
-            self.top = number;
-        }
+        self.top = self.top.max(number);
         Ok(())
     }
 

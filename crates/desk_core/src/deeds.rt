@@ -1,5 +1,6 @@
 //! What a request comes to: who asks is looked at, then its number, then what it does.
-ghost use Rattle.std.specs.Prelude.{◌≡◌, ◌≤◌, ◌-◌, ℕ, List, length, Some, None, Ok, Err, IfOk, Result};
+ghost use Rattle.std.specs.Prelude.{◌≡◌, ◌≤◌, ◌-◌, ℕ, List, length, Some, None, Ok, Err};
+ghost use Rattle.std.specs.Prelude.{IfOk, Result};
 ghost use Rattle.reg_base.specs.Documents.{document_at, holder_of};
 ghost use Rattle.std.specs.Option.{ForSome, option_copied};
 ghost use Rattle.std.specs.Prelude.{option_and_then};
@@ -13,22 +14,21 @@ ghost use Rattle.desk_model.specs.Serial.{plan_effect};
 ghost use Rattle.desk_model.specs.declared.plan.Source.TheVariants.{Removed};
 ghost use Rattle.desk_model.specs.Limits.{records_before, record_count as record_count_of};
 ghost use Rattle.desk_model.specs.Desk.{effect_at, tests_of};
-ghost use Rattle.desk_core.specs.Invariants.{HasShortLists};
+ghost use Rattle.desk_plans.specs.ShortLists.{HasShortLists};
 ghost use Rattle.desk_core.specs.Outcomes.{Comes, IsPut, deed_at, made_effect, planned_effect};
-ghost use Rattle.desk_core.specs.Sights.{sight_view, sight_at, drawn_for, IsSightOf, Suits};
-ghost use Rattle.desk_core.specs.Tries.{Tries};
+ghost use Rattle.desk_plans.specs.Sights.{sight_view, Suits};
+ghost use Rattle.desk_core.specs.SeenStates.{sight_at, drawn_for, IsSightOf};
+ghost use Rattle.desk_plans.specs.Tries.{Tries};
 
 use crate::clerks::{clerk_of, is_allowed, is_clerk, right_of};
-use crate::counts::record_count;
 use crate::desk::Desk;
-use crate::documents::document_from;
-use crate::manual::plan_manual;
 use crate::numbers::number_reply;
 use crate::outcome::{Outcome, close_outcome, document_outcome, refusal_outcome, removal_outcome};
-use crate::plans::{plan_activity, plan_mark, plan_sweep, plan_write};
-use crate::sight::Sight;
-use crate::tried::{PartFault, Tried};
 use desk_model::Plan;
+use desk_plans::{
+    PartFault, Sight, Tried, document_from, plan_activity, plan_manual, plan_mark, plan_sweep,
+    plan_write, record_count,
+};
 use desk_words::{Manual, Refusal, Request, Sweep, Switch, Write};
 use reg_base::{Code, Document, Memory};
 use std::alloc::Global;

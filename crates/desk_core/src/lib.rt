@@ -3,9 +3,9 @@
 //! Means: a desk is seen as that of the machine; `step` and `answer_line` make its events. `IsStep`
 //! in `specs/DeskViews.antt` and `AnswersLine` in `specs/Lines.antt` say what each leaves.
 //!
-//! Stands on: `desk_model` for what a desk is, `doc_store` for the documents that are kept,
-//! `cfg_model` for the configuration, `desk_words` for requests and replies, `reg_base` for
-//! documents, records and balances.
+//! Stands on: `desk_model` for what a desk is, `desk_plans` for what a request plans to do,
+//! `doc_store` for the documents that are kept, `cfg_model` for the configuration, `desk_words` for
+//! requests and replies, `reg_base` for documents, records and balances.
 //!
 //! Promises: a step gives the reply and leaves the desk of the machine; a line is answered by
 //! exactly its bytes; a refusal changes nothing; want of memory leaves the desk as it was.
@@ -15,31 +15,15 @@
 
 mod changes;
 mod clerks;
-mod copies;
-mod counts;
 mod deeds;
 mod desk;
-mod documents;
-mod entries;
-mod fields;
-mod given;
 mod limits;
 mod line;
-mod making;
-mod manual;
 mod numbers;
 mod outcome;
-mod part;
-mod plans;
 mod questions;
 mod room;
 mod rows;
-mod shown;
-mod sides;
-mod sight;
-mod states;
-mod tried;
-mod writes;
 
 pub use desk::{Desk, StepEnd};
 pub use limits::{MOST_DOCUMENTS, MOST_KEPT_RECORDS, MOST_LINES};

@@ -6,10 +6,10 @@ ghost use Rattle.desk_words.specs.declared.reply.Refusal.{Refusal as RefusalOf};
 ghost use Rattle.desk_model.specs.declared.plan.Plan.{Plan as PlanOf};
 ghost use Rattle.desk_model.specs.Limits.{limits_of, number_is_left, records_limit, within_limit};
 ghost use Rattle.desk_model.specs.Limits.{documents_with_plan as with_plan};
-ghost use Rattle.desk_core.specs.Sights.{sight_view};
+ghost use Rattle.desk_plans.specs.Sights.{sight_view};
 
 use crate::desk::Desk;
-use crate::sight::Sight;
+use desk_plans::Sight;
 use desk_words::{Limit, Refusal};
 
 /// How many documents there are at the most.

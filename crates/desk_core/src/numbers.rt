@@ -1,5 +1,6 @@
 //! The last request of each clerk, and what a number says beside it.
-ghost use Rattle.std.specs.Prelude.{◌≡◌, ◌<◌, Some, IfOk, option_map, position, vec_len, vec_capacity};
+ghost use Rattle.std.specs.Prelude.{◌≡◌, ◌<◌, Some, IfOk, option_map, position};
+ghost use Rattle.std.specs.Prelude.{vec_len, vec_capacity};
 ghost use Rattle.std.specs.Str.{bytes_eq};
 ghost use Rattle.cfg_model.specs.declared.config.Config.{Config as ConfigOf};
 ghost use Rattle.desk_words.specs.RequestTexts.{request_text as text_of_request};

@@ -5,15 +5,13 @@ ghost use Rattle.desk_model.specs.Questions.{question_balance, question_doc};
 ghost use Rattle.desk_model.specs.Stops.{or_stop};
 ghost use Rattle.desk_model.specs.Serial.{document_answer, question_answer};
 ghost use Rattle.desk_core.specs.Outcomes.{Comes, IsAnswer, deed_at};
-ghost use Rattle.desk_core.specs.Tries.{Tries};
+ghost use Rattle.desk_plans.specs.Tries.{Tries};
 
 use crate::desk::Desk;
-use crate::given::wrong;
 use crate::outcome::{Outcome, refusal_outcome};
 use crate::rows::balance_rows;
-use crate::shown::shown_document;
-use crate::tried::{PartFault, Tried};
 use cfg_model::Resource;
+use desk_plans::{PartFault, Tried, shown_document, wrong};
 use desk_words::{Answer, Balance, DocQuestion, Field, Refusal, Reply};
 use reg_base::{Cut, List, Memory, Scale};
 use std::alloc::Global;

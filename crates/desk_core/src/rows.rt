@@ -7,7 +7,7 @@ ghost use Rattle.reg_base.specs.Cuts.{inside};
 ghost use Rattle.reg_base.specs.Records.{booked_by, point_of, records_within};
 ghost use Rattle.reg_base.specs.Records.{amount_at as amount_of};
 ghost use Rattle.reg_base.specs.Balances.{sum_rows, is_shown};
-ghost use Rattle.desk_core.specs.Invariants.{HasShortLists};
+ghost use Rattle.desk_plans.specs.ShortLists.{HasShortLists};
 ghost use Rattle.desk_core.specs.Rows.{booked, rows_of, sums_at, sum_at, IsInReach, Adds, AreOfFew};
 
 use doc_store::Documents;

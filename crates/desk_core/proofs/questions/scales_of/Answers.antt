@@ -1,5 +1,5 @@
 use Rattle.cfg_model.specs.declared.register.Resource.{Resource}
-use Rattle.desk_core.proofs.ReadingLemmas.{taken-more}
+use Rattle.desk_core.proofs.DeskLemmas.{taken-more}
 use Rattle.desk_core.proofs.questions.scales_of.Goals as goal
 
 pub resources-preserved : goal.resources-preserved

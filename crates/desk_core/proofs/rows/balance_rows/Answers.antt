@@ -4,7 +4,7 @@ use Rattle.std.proofs.lemmas.Iterator.Consumers.{YieldsList-from_first, YieldsLi
 use Rattle.std.proofs.lemmas.Iterator.Consumers.{YieldsList-end}
 use Rattle.reg_base.specs.declared.records.SumRow.{SumRow}
 use Rattle.reg_base.specs.Balances.{sum_rows}
-use Rattle.desk_core.specs.Invariants.{HasShortLists}
+use Rattle.desk_plans.specs.ShortLists.{HasShortLists}
 use Rattle.desk_core.specs.Rows.{rows_of, AddsUp}
 use Rattle.std.specs.List.{filter, flat_map}
 use Rattle.reg_base.specs.Cuts.{inside}

@@ -4,7 +4,7 @@ use Rattle.desk_words.specs.declared.reply.Refusal.TheVariants.{Limit}
 use Rattle.desk_words.specs.declared.reply.Limit.TheVariants.{Documents, Records, Lines, Numbers}
 use Rattle.desk_model.specs.Limits.{within_limit, most_documents, most_kept_records, most_lines}
 use Rattle.desk_model.specs.Limits.{greatest_number, number_is_left}
-use Rattle.desk_core.specs.Sights.{sight_view}
+use Rattle.desk_plans.specs.Sights.{sight_view}
 use Rattle.desk_core.proofs.LimitLemmas.{limits-documents, limits-records, limits-lines}
 use Rattle.desk_core.proofs.LimitLemmas.{limits-number}
 use Rattle.desk_core.proofs.desk.Desk.limit_passed.Goals as goal

@@ -3,15 +3,16 @@ use Rattle.desk_words.specs.declared.request.Request.TheVariants.{Mark}
 use Rattle.desk_model.specs.State.{Desk}
 use Rattle.desk_model.specs.States.{plan_mark}
 use Rattle.desk_model.specs.Desk.{meaning_at, tests_of}
-use Rattle.desk_core.specs.Sights.{sight_view}
+use Rattle.desk_plans.specs.Sights.{sight_view}
 use Rattle.desk_core.proofs.DeedLemmas.{change-comes}
 use Rattle.desk_core.proofs.desk.Desk.mark_outcome.Goals as goal
 
 pub returns : goal.returns
 returns c = λ text.
     let desk : Desk = c.args.self.now.desk in
-    let meaning = meaning_at desk (Mark c.args.switch.now) in
+    let switch = c.args.switch.now in
+    let meaning = meaning_at desk (Mark switch) in
     let sight = sight_view c.sight-sight.result in
-    change-comes desk (tests_of desk meaning text) 0 (Some c.args.switch.now.doc) None (plan_mark c.args.switch.now) sight
+    change-comes desk (tests_of desk meaning text) 0 (Some switch.doc) None (plan_mark switch) sight
     c.planned.result refl c.sight-sight.ensures
-    (c.planned.ensures (plan_mark c.args.switch.now sight) meaning text c.plan_mark-plan.ensures.value)
+    (c.planned.ensures (plan_mark switch sight) meaning text c.plan_mark-plan.ensures.value)

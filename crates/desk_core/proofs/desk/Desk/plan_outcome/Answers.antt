@@ -2,7 +2,7 @@ use Rattle.std.proofs.Common.{List, ap, subst}
 use Rattle.reg_base.specs.declared.records.Document.{Document}
 use Rattle.desk_core.specs.DeskViews.{DeskView}
 use Rattle.desk_core.specs.Invariants.{AreKept}
-use Rattle.desk_core.specs.Sights.{sight_view}
+use Rattle.desk_plans.specs.Sights.{sight_view}
 use Rattle.desk_core.proofs.PlanLemmas.{seen-short}
 use Rattle.desk_core.proofs.desk.Desk.plan_outcome.Goals as goal
 

@@ -8,7 +8,7 @@ use Rattle.desk_model.specs.Limits.{records_with, within_limit, most_kept_record
 use Rattle.desk_core.specs.Outcomes.{Comes, made_effect}
 use Rattle.desk_core.specs.DeskViews.{DeskView}
 use Rattle.desk_core.specs.Invariants.{AreKept}
-use Rattle.desk_core.specs.Sights.{sight_view}
+use Rattle.desk_plans.specs.Sights.{sight_view}
 use Rattle.desk_core.proofs.PlanLemmas.{seen-short, put-comes}
 use Rattle.desk_core.proofs.desk.Desk.put_outcome.Goals as goal
 

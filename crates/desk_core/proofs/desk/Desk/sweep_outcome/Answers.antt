@@ -3,15 +3,16 @@ use Rattle.desk_words.specs.declared.request.Request.TheVariants.{Sweep}
 use Rattle.desk_model.specs.State.{Desk}
 use Rattle.desk_model.specs.States.{plan_sweep}
 use Rattle.desk_model.specs.Desk.{meaning_at, tests_of}
-use Rattle.desk_core.specs.Sights.{sight_view}
+use Rattle.desk_plans.specs.Sights.{sight_view}
 use Rattle.desk_core.proofs.DeedLemmas.{change-comes}
 use Rattle.desk_core.proofs.desk.Desk.sweep_outcome.Goals as goal
 
 pub returns : goal.returns
 returns c = λ text.
     let desk : Desk = c.args.self.now.desk in
-    let meaning = meaning_at desk (Sweep c.args.sweep.now) in
+    let sweep = c.args.sweep.now in
+    let meaning = meaning_at desk (Sweep sweep) in
     let sight = sight_view c.sight-sight.result in
-    change-comes desk (tests_of desk meaning text) 0 (Some c.args.sweep.now.doc) None plan_sweep sight
+    change-comes desk (tests_of desk meaning text) 0 (Some sweep.doc) None plan_sweep sight
     c.planned.result refl c.sight-sight.ensures
     (c.planned.ensures (plan_sweep sight) meaning text c.plan_sweep-plan.ensures.value)

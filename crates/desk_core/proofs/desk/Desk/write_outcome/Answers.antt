@@ -4,18 +4,22 @@ use Rattle.desk_model.specs.State.{Desk}
 use Rattle.desk_model.specs.Writes.{plan_write}
 use Rattle.desk_model.specs.Desk.{meaning_at, command_at, tests_of}
 use Rattle.desk_core.specs.DeskViews.{DeskView}
-use Rattle.desk_core.specs.Sights.{sight_view}
-use Rattle.desk_core.specs.Tries.{Tries}
+use Rattle.desk_plans.specs.Sights.{sight_view}
+use Rattle.desk_plans.specs.Tries.{Tries}
 use Rattle.desk_core.proofs.DeedLemmas.{drawn-new, change-comes}
 use Rattle.desk_core.proofs.desk.Desk.write_outcome.Goals as goal
 
 pub returns : goal.returns
 returns c = λ text.
     let desk : Desk = c.args.self.now.desk in
-    let meaning = meaning_at desk (Write c.args.write.now) in
+    let config = desk.setting.config in
+    let write = c.args.write.now in
+    let meaning = meaning_at desk (Write write) in
+    let number = (command_at desk (Write write)).number in
     let sight = sight_view c.sight-sight.result in
-    change-comes desk (tests_of desk meaning text) (command_at desk (Write c.args.write.now)).number c.args.write.now.doc c.args.write.now.key (plan_write c.args.self.now.desk.setting.config c.args.write.now) sight
-    c.planned.result (drawn-new desk.serial c.args.write.now.doc) c.sight-sight.ensures
-    (c.planned.ensures (plan_write c.args.self.now.desk.setting.config c.args.write.now sight) meaning text (subst (λ (v : DeskView). Tries c.plan_write-plan.result
-    (plan_write v.desk.setting.config c.args.write.now sight)) c.self.view_is
-    c.plan_write-plan.ensures.value))
+    let tries = subst (λ (v : DeskView). Tries c.plan_write-plan.result
+    (plan_write v.desk.setting.config write sight)) c.self.view_is c.plan_write-plan.ensures.value in
+    change-comes desk (tests_of desk meaning text) number write.doc write.key
+    (plan_write config write) sight
+    c.planned.result (drawn-new desk.serial write.doc) c.sight-sight.ensures
+    (c.planned.ensures (plan_write config write sight) meaning text tries)

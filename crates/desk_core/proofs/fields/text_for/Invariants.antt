@@ -1,6 +1,0 @@
-use Rattle.std.proofs.Common.{◌≡◌, drop}
-use Rattle.desk_model.specs.Fields.{text_for}
-use Rattle.desk_core.proofs.fields.text_for.Given as goal
-
-abbrev pub invariant-texts : goal.invariant-texts
-invariant-texts l = text_for l.name (drop l.text-index l.texts) ≡ text_for l.name l.texts

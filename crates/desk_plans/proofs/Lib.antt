@@ -1,0 +1,5 @@
+pub mod FieldLemmas
+pub mod PartLemmas
+pub mod ReadingLemmas
+pub mod ShortLemmas
+pub mod ShownLemmas

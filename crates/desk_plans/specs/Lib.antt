@@ -1,0 +1,5 @@
+pub mod Contents
+pub mod ShortLists
+pub mod ShownSets
+pub mod Sights
+pub mod Tries

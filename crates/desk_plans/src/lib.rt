@@ -1,0 +1,39 @@
+//! What a request plans to do: the document that a change leaves, and documents as they are shown.
+//!
+//! Means: each part makes what its definition in `desk_model` makes, or is refused where that is.
+//! `Tries` in `specs/Tries.antt` says so, and `sight_view` in `specs/Sights.antt` what a plan sees.
+//!
+//! Stands on: `desk_model` for plans and what they make, `cfg_model` for the configuration,
+//! `desk_words` for requests, refusals and shown documents, `reg_base` for documents.
+//!
+//! Promises: a plan and the document that it leaves are those of the machine, or its first
+//! refusal; a document that is made has no more sets, records and entries than there may be.
+//!
+//! Leaves open: how documents are kept, who asks, and when memory is wanted.
+#![tactic(auto)]
+
+mod copies;
+mod counts;
+mod documents;
+mod entries;
+mod fields;
+mod given;
+mod making;
+mod manual;
+mod part;
+mod plans;
+mod shown;
+mod sides;
+mod sight;
+mod states;
+mod tried;
+mod writes;
+
+pub use counts::record_count;
+pub use documents::document_from;
+pub use given::wrong;
+pub use manual::plan_manual;
+pub use plans::{plan_activity, plan_mark, plan_sweep, plan_write};
+pub use shown::shown_document;
+pub use sight::Sight;
+pub use tried::{PartFault, Tried};
