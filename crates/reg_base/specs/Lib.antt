@@ -10,4 +10,5 @@ pub mod Points
 pub mod Records
 pub mod Results
 pub mod Rights
+pub mod Shares
 pub mod ShortTexts

@@ -1,7 +1,7 @@
 -- Records of registers: their points, which of them count, and which are asked for.
-use Rattle.std.specs.Prelude.{ℕ, ℤ, pos, neg_ℤ, Bool, true, false, ◌&&◌, Option, Some, None}
-use Rattle.std.specs.Prelude.{is_none, unwrap_or, if◌then◌else◌, List, [], ◌∷◌, map, filter}
-use Rattle.std.specs.Prelude.{slice_get}
+use Rattle.std.specs.Prelude.{ℕ, ℤ, pos, neg_ℤ, Bool, true, false, not, ◌&&◌, ◌==◌, Option, Some}
+use Rattle.std.specs.Prelude.{None, is_none, unwrap_or, if◌then◌else◌, List, [], ◌∷◌, map}
+use Rattle.std.specs.Prelude.{filter, slice_get}
 use Rattle.std.specs.List.{list_any, flat_map}
 use Rattle.std.specs.Ordering.{nat_cmp, ordering_then, match_ordering, is_eq}
 use Rattle.std.specs.Cmp.Lexicographic.{slice_cmp}
@@ -110,3 +110,7 @@ chosen_records asked records = filter (λ b. matches asked b.rec.values) records
 -- the records whose points lie inside the cut
 abbrev pub records_within : Cut → List Booked → List Booked
 records_within cut records = filter (λ b. inside cut (point_of b)) records
+
+-- the records that other documents made
+abbrev pub without_recorder : ℕ → List Booked → List Booked
+without_recorder number records = filter (λ b. not (b.recorder == number)) records

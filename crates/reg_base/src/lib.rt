@@ -10,7 +10,8 @@
 //!
 //! Promises: each `parse` accepts exactly its spelling, and those of numbers, dates, points and
 //! cuts name the first fault; the four are printed exactly as `specs/` says, and read back; orders
-//! are total and tell all apart; a balance does not depend on the order of the records.
+//! are total and tell all apart; a balance does not depend on the order of the records; a share is
+//! the nearest whole number.
 //!
 //! Leaves open: how much memory a text takes, and when memory is refused.
 #![tactic(auto)]
@@ -32,6 +33,7 @@ mod read_back;
 mod records;
 mod right;
 mod scale;
+mod shares;
 mod short_text;
 mod sums;
 mod text;
@@ -61,6 +63,7 @@ pub use records::{
 };
 pub use right::Right;
 pub use scale::Scale;
+pub use shares::share;
 pub use sums::{print_sum, sum_string};
 pub use text::{Text, join_texts, string_of};
 pub use value::{Cell, Value};

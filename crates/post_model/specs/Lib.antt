@@ -1,0 +1,5 @@
+pub mod Lefts
+pub mod Makes
+pub mod Scenes
+pub mod WriteOffs
+pub mod Yields

@@ -1,0 +1,18 @@
+//! Posting by rules, as definitions and laws alone: what the rules of a document's type make.
+//!
+//! Means: `yield_of` in `specs/Yields.antt` is what posting a document makes, or its first fault,
+//! where the records of each register are known.
+//!
+//! Stands on: `rule_lang` for statements, `cfg_model` for registers and charts, `reg_base` for
+//! documents, records, balances and shares.
+//!
+//! Promises: laws that hold of every yield, as contracts of functions that do nothing.
+//!
+//! Leaves open: where the records come from, and how a yield is computed.
+#![tactic(auto)]
+
+mod holding;
+mod made;
+
+pub use holding::Holding;
+pub use made::{Made, Yield};
