@@ -5,7 +5,6 @@ use Rattle.reg_base.specs.Results.{◌>>=◌, unless}
 use Rattle.desk_words.specs.declared.request.Request.{Request}
 use Rattle.desk_words.specs.declared.reply.Reply.{Reply}
 use Rattle.desk_words.specs.declared.reply.Refusal.TheVariants.{UnknownClerk, NotAllowed}
-use Rattle.desk_words.specs.RequestTexts.{request_text}
 use Rattle.desk_model.specs.Clerks.{is_clerk, is_allowed}
 use Rattle.desk_model.specs.LastRequests.{number_test}
 use Rattle.desk_words.specs.declared.reply.Refusal.{Refusal}
@@ -47,7 +46,7 @@ pub number-stops : (desk : Desk) (request : Request) (reply : Reply) →
     is_allowed desk.setting.config (meaning_at desk request).clerk
     (meaning_at desk request).right ≡ true →
     Some reply ≡ stop_reply (number_test desk.serial.lasts (meaning_at desk request).clerk
-    (meaning_at desk request).number (request_text request)) →
+    (meaning_at desk request).number request) →
     Comes desk (effect_at desk request) (Replies reply)
 unfolding effect_of
 number-stops desk request reply known allowed stopped =
@@ -55,13 +54,13 @@ number-stops desk request reply known allowed stopped =
     (is_allowed desk.setting.config (meaning_at desk request).clerk
     (meaning_at desk request).right) known allowed
     (number_test desk.serial.lasts (meaning_at desk request).clerk
-    (meaning_at desk request).number (request_text request)) stopped
+    (meaning_at desk request).number request) stopped
   where
     at : (is_known is_allowed : Bool) → is_known ≡ true → is_allowed ≡ true →
         (test : Result (Unit {0}) Stop) → Some reply ≡ stop_reply test →
         Comes desk (unless is_known (refuses UnknownClerk) >>= λ _. unless is_allowed
         (refuses (NotAllowed (meaning_at desk request).right)) >>= λ _. test >>= λ _. or_stop
-        (deed_at desk request (request_text request))) (Replies reply)
+        (deed_at desk request)) (Replies reply)
     at true true k a (Ok u) h = cc
     at true true k a (Err stop) h = let same : reply_at stop ≡ reply = cc in same
     at true false k a test h = cc

@@ -11,7 +11,6 @@ use Rattle.desk_model.specs.Stops.{Stop}
 use Rattle.desk_model.specs.Desk.{meaning_at, command_at, effect_at, Event, event_of, step}
 use Rattle.desk_model.specs.declared.last.Last.{Last}
 use Rattle.desk_model.specs.LastRequests.{lasts_with}
-use Rattle.desk_words.specs.RequestTexts.{request_text}
 use Rattle.desk_words.specs.declared.reply.Answer.{Answer}
 use Rattle.desk_words.specs.declared.reply.Answer.TheVariants.{Acknowledged, Balance, Shown}
 use Rattle.desk_words.specs.declared.reply.Reply.TheVariants.{Done}
@@ -20,8 +19,8 @@ use Rattle.desk_core.specs.declared.outcome.Change.{Change as CoreChange}
 use Rattle.desk_core.specs.declared.outcome.Entry.{Entry}
 use Rattle.desk_core.specs.declared.outcome.Outcome.TheVariants.{Replies, Changes}
 use Rattle.desk_core.specs.declared.outcome.Prepared.{Prepared}
-use Rattle.desk_core.specs.DeskViews.{changed, desk_with, lasts_and, MayChange}
-use Rattle.desk_core.specs.Outcomes.{IsAnswer, last_with, Comes, Prepares}
+use Rattle.desk_core.specs.DeskViews.{changed, desk_with, MayChange}
+use Rattle.desk_core.specs.Outcomes.{IsAnswer, Comes, Prepares}
 
 -- ---- steps
 
@@ -29,40 +28,40 @@ use Rattle.desk_core.specs.Outcomes.{IsAnswer, last_with, Comes, Prepares}
 pub step-replies : (desk : Desk) (r : Request) (reply : Reply) (prepared : Prepared) →
     Comes desk (effect_at desk r) (Replies reply) → prepared.reply ≡ reply →
     prepared.text.items ≡ reply_text reply ++ 10 ∷ [] → prepared.entry ≡ None →
-    Prepares desk (step desk r) prepared
+    Prepares desk r (step desk r) prepared
 unfolding step
 step-replies desk r reply prepared comes reply_is text_is none =
     at (effect_at desk r) comes
   where
-    kept : (clerk : List ℕ) (number : Option ℕ) (text : List ℕ) (answer : Answer)
-        (lasts : List Last) → IsAnswer answer → lasts_with clerk number text answer lasts ≡ lasts
-    kept clerk None text answer lasts is = refl
-    kept clerk (Some n) text (Acknowledged a) lasts is = absurd is
-    kept clerk (Some n) text (Balance rows scales) lasts is = refl
-    kept clerk (Some n) text (Shown document) lasts is = refl
+    kept : (clerk : List ℕ) (number : Option ℕ) (answer : Answer)
+        (lasts : List Last) → IsAnswer answer → lasts_with clerk number r answer lasts ≡ lasts
+    kept clerk None answer lasts is = refl
+    kept clerk (Some n) (Acknowledged a) lasts is = absurd is
+    kept clerk (Some n) (Balance rows scales) lasts is = refl
+    kept clerk (Some n) (Shown document) lasts is = refl
 
     made : (event : Event) → event.reply ≡ reply → event.desk ≡ desk →
-        Prepares desk event prepared
+        Prepares desk r event prepared
     made event replied stays = record {
       reply_is = replied ∙ sym reply_is;
       text_is = text_is ∙ ap (λ (x : Reply). reply_text x ++ 10 ∷ []) (sym replied);
-      desk_is = stays ∙ ap (desk_with desk) (sym none);
+      desk_is = stays ∙ ap (desk_with desk r) (sym none);
       may = subst (λ (e : Option Entry). ForSome e (λ x. MayChange desk x.change)) (sym none)
           (λ x e. cc);
     }
 
     at : (effect : Result Effect Stop) → Comes desk effect (Replies reply) →
-        Prepares desk (event_of desk (meaning_at desk r) (command_at desk r) effect) prepared
+        Prepares desk r (event_of desk (meaning_at desk r) (command_at desk r) effect) prepared
     at (Ok effect) answers =
         made (event_of desk (meaning_at desk r) (command_at desk r) (Ok effect)) answers.reply_is
         (ap (λ (s : State). record desk {
           serial = record s {
-            lasts = lasts_with (meaning_at desk r).clerk (meaning_at desk r).number (request_text r)
+            lasts = lasts_with (meaning_at desk r).clerk (meaning_at desk r).number r
                 effect.answer s.lasts;
           };
         }) answers.state_is
         ∙ ap (λ (ls : List Last). record desk { serial = record desk.serial { lasts = ls } })
-        (kept (meaning_at desk r).clerk (meaning_at desk r).number (request_text r) effect.answer
+        (kept (meaning_at desk r).clerk (meaning_at desk r).number effect.answer
         desk.serial.lasts answers.answer))
     at (Err stop) replied =
         made (event_of desk (meaning_at desk r) (command_at desk r) (Err stop)) replied refl
@@ -75,9 +74,8 @@ pub step-changes : (desk : Desk) (r : Request) (change : CoreChange)
     prepared.text.items ≡ reply_text prepared.reply ++ 10 ∷ [] →
     prepared.entry ≡ Some (record {
       change = change;
-      last = last_with (meaning_at desk r).clerk (meaning_at desk r).number (request_text r)
-          acknowledgement;
-    }) → Prepares desk (step desk r) prepared
+      acknowledgement = acknowledgement;
+    }) → Prepares desk r (step desk r) prepared
 unfolding step
 step-changes desk r change acknowledgement prepared comes reply_is text_is entry_is =
     at (effect_at desk r) comes
@@ -88,17 +86,8 @@ step-changes desk r change acknowledgement prepared comes reply_is text_is entry
     number : Option ℕ
     number = (meaning_at desk r).number
 
-    last : Option Last
-    last = last_with clerk number (request_text r) acknowledgement
-
-    kept : (n : Option ℕ) (lasts : List Last) →
-        lasts_with clerk n (request_text r) (Acknowledged acknowledgement) lasts
-        ≡ lasts_and (last_with clerk n (request_text r) acknowledgement) lasts
-    kept None lasts = refl
-    kept (Some n) lasts = refl
-
     at : (effect : Result Effect Stop) → Comes desk effect (Changes change acknowledgement) →
-        Prepares desk (event_of desk (meaning_at desk r) (command_at desk r) effect) prepared
+        Prepares desk r (event_of desk (meaning_at desk r) (command_at desk r) effect) prepared
     at (Err stop) nothing = absurd nothing
     at (Ok effect) leaves =
         let replied : Done effect.answer ≡ prepared.reply = ap Done leaves.answer_is
@@ -114,21 +103,18 @@ step-changes desk r change acknowledgement prepared comes reply_is text_is entry
               (λ i. record {
                 setting = setting i;
                 serial = record (state i) {
-                  lasts = lasts_with clerk number (request_text r) (leaves.answer_is i)
+                  lasts = lasts_with clerk number r (leaves.answer_is i)
                       (state i).lasts;
                 };
               })
-              ∙ ap (λ (ls : List Last). record (changed desk change) {
-                serial = record (changed desk change).serial { lasts = ls };
-              }) (kept number (changed desk change).serial.lasts)
-              ∙ ap (desk_with desk) (sym entry_is);
+              ∙ ap (desk_with desk r) (sym entry_is);
           may = subst (λ (e : Option Entry). ForSome e (λ x. MayChange desk x.change))
               (sym entry_is) (λ x e. subst (λ (c : CoreChange). MayChange desk c)
               (inner change x e) leaves.may);
         }
       where
         inner : (c : CoreChange) (x : Entry) →
-            Some (record { change = c; last = last }) ≡ Some x → c ≡ x.change
+            Some (record { change = c; acknowledgement = acknowledgement }) ≡ Some x → c ≡ x.change
         inner c x e = cc
 
 -- ---- what is prepared

@@ -3,12 +3,14 @@ use Rattle.std.specs.Prelude.{◌≡◌, ⊤, ℕ, ◌≤◌, max, Option, Some,
 use Rattle.reg_base.specs.declared.records.Document.{Document}
 use Rattle.reg_base.specs.Documents.{with_document, without_document}
 use Rattle.desk_words.specs.declared.request.Request.{Request}
+use Rattle.desk_words.specs.declared.reply.Acknowledgement.{Acknowledgement}
+use Rattle.desk_words.specs.declared.reply.Answer.TheVariants.{Acknowledged}
 use Rattle.desk_words.specs.declared.reply.Reply.{Reply}
-use Rattle.desk_model.specs.declared.last.Last.{Last}
 use Rattle.desk_model.specs.State.{Desk}
-use Rattle.desk_model.specs.LastRequests.{with_last}
+use Rattle.desk_model.specs.Plans.{Meaning}
+use Rattle.desk_model.specs.LastRequests.{lasts_with}
 use Rattle.desk_model.specs.Limits.{records_in, most_documents, most_kept_records}
-use Rattle.desk_model.specs.Desk.{step}
+use Rattle.desk_model.specs.Desk.{meaning_at, step}
 use Rattle.desk_core.specs.declared.outcome.Change.{Change}
 use Rattle.desk_core.specs.declared.outcome.Change.TheVariants.{Put, Remove, Close}
 use Rattle.desk_core.specs.declared.outcome.Entry.{Entry}
@@ -37,21 +39,20 @@ changed desk (Remove number) = record desk {
 }
 changed desk (Close date) = record desk { serial = record desk.serial { closed = date } }
 
--- the last requests with one more in its place, where there is one
-abbrev pub lasts_and : Option Last → List Last → List Last
-lasts_and None lasts = lasts
-lasts_and (Some last) lasts = with_last last lasts
-
--- the desk with a request as its clerk's last, where there is one
-abbrev pub with_lasts : Desk → Option Last → Desk
-with_lasts desk last = record desk {
-  serial = record desk.serial { lasts = lasts_and last desk.serial.lasts };
+-- the desk with a request as its clerk's last, where it has a number
+abbrev pub with_request : Desk → Meaning → Request → Acknowledgement → Desk
+with_request desk meaning request acknowledgement = record desk {
+  serial = record desk.serial {
+    lasts = lasts_with meaning.clerk meaning.number request (Acknowledged acknowledgement)
+        desk.serial.lasts;
+  };
 }
 
--- the desk with an entry committed, where there is one
-abbrev pub desk_with : Desk → Option Entry → Desk
-desk_with desk None = desk
-desk_with desk (Some entry) = with_lasts (changed desk entry.change) entry.last
+-- the desk with the entry of a request committed, where there is one
+abbrev pub desk_with : Desk → Request → Option Entry → Desk
+desk_with desk request None = desk
+desk_with desk request (Some entry) = with_request (changed desk entry.change)
+    (meaning_at desk request) request entry.acknowledgement
 
 -- a document that may be put: its lists are short, and no limit is passed with it
 pub record Fits (desk : Desk) (document : Document) : Type 0 where

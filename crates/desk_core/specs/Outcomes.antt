@@ -7,7 +7,6 @@ use Rattle.desk_words.specs.declared.reply.Answer.TheVariants.{Acknowledged, Bal
 use Rattle.desk_words.specs.declared.reply.Reply.{Reply}
 use Rattle.desk_words.specs.declared.reply.Reply.TheVariants.{Done}
 use Rattle.desk_words.specs.ReplyTexts.{reply_text}
-use Rattle.desk_model.specs.declared.last.Last.{Last}
 use Rattle.desk_model.specs.State.{Desk}
 use Rattle.desk_model.specs.Effects.{Effect}
 use Rattle.desk_model.specs.Stops.{Stop}
@@ -33,16 +32,6 @@ use Rattle.desk_core.specs.DeskViews.{changed, desk_with, MayChange}
 abbrev pub stop_reply : Result (Unit {0}) Stop → Option Reply
 stop_reply (Ok u) = None
 stop_reply (Err stop) = Some (reply_at stop)
-
--- a request as its clerk's last one, where it has a number
-abbrev pub last_with : List ℕ → Option ℕ → List ℕ → Acknowledgement → Option Last
-last_with clerk None text acknowledgement = None
-last_with clerk (Some number) text acknowledgement = Some (record {
-  clerk = clerk;
-  number = number;
-  text = text;
-  acknowledgement = acknowledgement;
-})
 
 -- the answer to a question
 abbrev pub IsAnswer : Answer → Type 0
@@ -70,18 +59,20 @@ Comes desk (Ok effect) (Changes change acknowledgement) = Leaves desk effect cha
 Comes desk (Err stop) (Replies reply) = reply_at stop ≡ reply
 Comes desk (Err stop) (Changes change acknowledgement) = ⊥
 
--- what is prepared is an event: its reply, the text of that, and an entry that makes its desk
-pub record Prepares (desk : Desk) (event : Event) (prepared : Prepared) : Type 0 where
+-- what is prepared of a request is an event: its reply, the text of that, and an entry that makes
+-- its desk
+pub record Prepares (desk : Desk) (request : Request) (event : Event) (prepared : Prepared)
+    : Type 0 where
   pub reply_is : event.reply ≡ prepared.reply
   pub text_is : prepared.text.items ≡ reply_text event.reply ++ 10 ∷ []
-  pub desk_is : event.desk ≡ desk_with desk prepared.entry
+  pub desk_is : event.desk ≡ desk_with desk request prepared.entry
   pub may : ForSome prepared.entry (λ entry. MayChange desk entry.change)
 
 -- ---- deeds
 
--- the effect of a request's deed at a desk, its canonical text being this
-abbrev pub deed_at : Desk → Request → List ℕ → Result Effect Refusal
-deed_at desk request text = deed_effect (tests_of desk (meaning_at desk request) text) desk.setting
+-- the effect of a request's deed at a desk
+abbrev pub deed_at : Desk → Request → Result Effect Refusal
+deed_at desk request = deed_effect (tests_of desk (meaning_at desk request) request) desk.setting
     desk.serial (command_at desk request).number (meaning_at desk request).deed
 
 -- the effect of a plan, where there is one

@@ -1,9 +1,10 @@
 //! What a request comes to: who asks is looked at, then its number, then what it does.
-ghost use Rattle.std.specs.Prelude.{◌≡◌, ◌≤◌, ◌-◌, ℕ, List, length, Some, None, Ok, Err};
+ghost use Rattle.std.specs.Prelude.{◌≡◌, ◌≤◌, ◌-◌, length, Some, None, Ok, Err};
 ghost use Rattle.std.specs.Prelude.{IfOk, Result};
 ghost use Rattle.reg_base.specs.Documents.{document_at, holder_of};
 ghost use Rattle.std.specs.Option.{ForSome, option_copied};
 ghost use Rattle.std.specs.Prelude.{option_and_then};
+ghost use Rattle.desk_words.specs.declared.request.Request.{Request as RequestOf};
 ghost use Rattle.desk_words.specs.declared.request.Request.TheVariants as RequestIs;
 ghost use Rattle.desk_words.specs.declared.reply.Refusal.{Refusal as RefusalOf};
 ghost use Rattle.desk_words.specs.WellFormed.{IsRequest};
@@ -56,8 +57,8 @@ impl Desk {
 
     // What the request does, once its clerk, his right and its number were asked.
     fn deed_outcome(&self, alloc: Global, request: &Request) -> Result<Outcome, Memory>
-        ensures { (text : List ℕ) → IfOk result
-            (Comes self.now.desk (or_stop (deed_at self.now.desk request.now text))) }
+        ensures { IfOk result
+            (Comes self.now.desk (or_stop (deed_at self.now.desk request.now))) }
     {
         match request {
             Request::Write(write) => self.write_outcome(alloc, write),
@@ -74,8 +75,8 @@ impl Desk {
     // What it comes to that a document of a type is written.
     #[tactic(auto, unfolding(desk_model::specs::Serial::change_effect))]
     fn write_outcome(&self, alloc: Global, write: &Write) -> Result<Outcome, Memory>
-        ensures { (text : List ℕ) → IfOk result (Comes self.now.desk
-            (or_stop (deed_at self.now.desk (RequestIs.Write write.now) text))) }
+        ensures { IfOk result
+            (Comes self.now.desk (or_stop (deed_at self.now.desk (RequestIs.Write write.now)))) }
     {
         let sight = self.sight(write.doc, &write.key);
         let plan = plan_write(alloc, &self.config, write, &sight);
@@ -85,8 +86,8 @@ impl Desk {
     // What it comes to that records are given by hand.
     #[tactic(auto, unfolding(desk_model::specs::Serial::change_effect))]
     fn manual_outcome(&self, alloc: Global, manual: &Manual) -> Result<Outcome, Memory>
-        ensures { (text : List ℕ) → IfOk result (Comes self.now.desk
-            (or_stop (deed_at self.now.desk (RequestIs.Manual manual.now) text))) }
+        ensures { IfOk result
+            (Comes self.now.desk (or_stop (deed_at self.now.desk (RequestIs.Manual manual.now)))) }
     {
         let sight = self.sight(manual.doc, &manual.key);
         let plan = plan_manual(alloc, &self.config, manual, &sight);
@@ -96,8 +97,8 @@ impl Desk {
     // What it comes to that a document is marked for deletion, or loses its mark.
     #[tactic(auto, unfolding(desk_model::specs::Serial::change_effect))]
     fn mark_outcome(&self, alloc: Global, switch: &Switch) -> Result<Outcome, Memory>
-        ensures { (text : List ℕ) → IfOk result (Comes self.now.desk
-            (or_stop (deed_at self.now.desk (RequestIs.Mark switch.now) text))) }
+        ensures { IfOk result
+            (Comes self.now.desk (or_stop (deed_at self.now.desk (RequestIs.Mark switch.now)))) }
     {
         let sight = self.sight(Some(switch.doc), &None);
         let plan = plan_mark(alloc, switch, &sight);
@@ -107,8 +108,8 @@ impl Desk {
     // What it comes to that the records of a document are made to count, or not.
     #[tactic(auto, unfolding(desk_model::specs::Serial::change_effect))]
     fn activity_outcome(&self, alloc: Global, switch: &Switch) -> Result<Outcome, Memory>
-        ensures { (text : List ℕ) → IfOk result (Comes self.now.desk
-            (or_stop (deed_at self.now.desk (RequestIs.Activity switch.now) text))) }
+        ensures { IfOk result
+            (Comes self.now.desk (or_stop (deed_at self.now.desk (RequestIs.Activity switch.now)))) }
     {
         let sight = self.sight(Some(switch.doc), &None);
         let plan = plan_activity(alloc, switch, &sight);
@@ -118,8 +119,8 @@ impl Desk {
     // What it comes to that a marked document is removed.
     #[tactic(auto, unfolding(desk_model::specs::Serial::change_effect))]
     fn sweep_outcome(&self, alloc: Global, sweep: &Sweep) -> Result<Outcome, Memory>
-        ensures { (text : List ℕ) → IfOk result (Comes self.now.desk
-            (or_stop (deed_at self.now.desk (RequestIs.Sweep sweep.now) text))) }
+        ensures { IfOk result
+            (Comes self.now.desk (or_stop (deed_at self.now.desk (RequestIs.Sweep sweep.now)))) }
     {
         let sight = self.sight(Some(sweep.doc), &None);
         let plan = plan_sweep(alloc, &sight);
@@ -179,9 +180,9 @@ impl Desk {
     ) -> Result<Outcome, Memory>
         requires seen { IsSightOf self.now.desk.serial (sight_view sight.now) }
         requires suits { IfOk plan (Suits (sight_view sight.now)) }
-        ensures { (planned : Result PlanOf RefusalOf) (meaning : Meaning) (text : List ℕ)
+        ensures { (planned : Result PlanOf RefusalOf) (meaning : Meaning) (asked : RequestOf)
             → Tries plan planned → IfOk result (Comes self.now.desk (or_stop
-            (planned_effect self.now.desk (tests_of self.now.desk meaning text)
+            (planned_effect self.now.desk (tests_of self.now.desk meaning asked)
             (sight_view sight.now) planned))) }
     {
         match plan {
@@ -196,8 +197,8 @@ impl Desk {
     fn plan_outcome(&self, alloc: Global, sight: &Sight<'_>, plan: Plan) -> Result<Outcome, Memory>
         requires seen { IsSightOf self.now.desk.serial (sight_view sight.now) }
         requires suits { Suits (sight_view sight.now) plan }
-        ensures { (meaning : Meaning) (text : List ℕ) → IfOk result (Comes self.now.desk (or_stop
-            (plan_effect (tests_of self.now.desk meaning text) self.now.desk.setting
+        ensures { (meaning : Meaning) (asked : RequestOf) → IfOk result (Comes self.now.desk (or_stop
+            (plan_effect (tests_of self.now.desk meaning asked) self.now.desk.setting
             self.now.desk.serial (sight_view sight.now).drawn (sight_view sight.now) plan))) }
     {
         let number = plan.doc.number;

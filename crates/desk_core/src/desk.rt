@@ -6,20 +6,23 @@
 //!     documents  [1: nail 10.000 50.00]  [2: nail -2.000 -10.00]        records  2        top  2
 ghost use Rattle.std.specs.Prelude.{◌≡◌, ◌<◌, IfOk, OnOk, OnErr};
 ghost use Rattle.std.specs.Option.{ForSome};
+ghost use Rattle.cfg_model.specs.declared.config.Config.{Config as ConfigOf};
 ghost use Rattle.cfg_model.specs.Limits.{IsWithinLimits};
 ghost use Rattle.desk_words.specs.ReplyTexts.{HasScales};
 ghost use Rattle.desk_words.specs.WellFormed.{IsRequest};
 ghost use Rattle.desk_model.specs.State.{first_desk};
+ghost use Rattle.desk_model.specs.Meanings.{meaning_of};
 ghost use Rattle.desk_model.specs.Desk.{step as step_of};
 ghost use Rattle.desk_model.specs.Laws.{IsRefusal};
-ghost use Rattle.desk_core.specs.DeskViews.{IsStep, MayChange, changed, desk_with, with_lasts};
+ghost use Rattle.desk_core.specs.DeskViews.{IsStep, MayChange, changed, desk_with};
+ghost use Rattle.desk_core.specs.DeskViews.{with_request};
 ghost use Rattle.desk_core.specs.Outcomes.{Prepares};
 
-use crate::numbers::put_last;
+use crate::numbers::{copy_request, keep_request};
 use crate::outcome::{Change, Entry, Outcome, Prepared, prepare_change, prepare_reply};
 use cfg_model::Config;
 use desk_model::{Last, refusals_change_nothing, replies_have_scales};
-use desk_words::{Reply, Request};
+use desk_words::{Acknowledgement, Reply, Request};
 use doc_store::Store;
 use reg_base::{Date, Memory};
 use std::alloc::Global;
@@ -109,7 +112,8 @@ impl Desk {
             text: _,
             entry,
         } = self.prepare(alloc, request)?;
-        self.enter(entry)?;
+        let kept = copy_request(alloc, request)?;
+        self.enter(entry, kept)?;
         refusals_change_nothing();
         replies_have_scales();
         Ok(reply)
@@ -118,7 +122,8 @@ impl Desk {
     // Takes all memory of a request but the room of its entry, and changes nothing.
     pub(crate) fn prepare(&self, alloc: Global, request: &Request) -> Result<Prepared, Memory>
         requires { IsRequest request.now }
-        ensures { IfOk result (Prepares self.now.desk (step_of self.now.desk request.now)) }
+        ensures { IfOk result
+            (Prepares self.now.desk request.now (step_of self.now.desk request.now)) }
     {
         match self.outcome(alloc, request)? {
             Outcome::Replies(reply) => {
@@ -128,33 +133,36 @@ impl Desk {
             Outcome::Changes {
                 change,
                 acknowledgement,
-            } => prepare_change(alloc, request, change, acknowledgement),
+            } => prepare_change(alloc, change, acknowledgement),
         }
     }
 
-    // Commits an entry; want of memory for its room leaves the desk as it was.
-    pub(crate) fn enter(&mut self, entry: Option<Entry>) -> Result<(), Memory>
+    // Commits the entry of a request; want of memory for its room leaves the desk as it was.
+    pub(crate) fn enter(&mut self, entry: Option<Entry>, request: Request) -> Result<(), Memory>
         requires { ForSome entry (λ e. MayChange self.old.desk e.change) }
-        ensures ok { OnOk result (self.new.desk ≡ desk_with self.old.desk entry) }
+        ensures ok { OnOk result (self.new.desk ≡ desk_with self.old.desk request entry) }
         ensures err { OnErr result (self.new.desk ≡ self.old.desk) }
     {
         match entry {
-            Some(entry) => self.commit(entry),
+            Some(entry) => self.commit(entry, request),
             None => Ok(()),
         }
     }
 
     // Makes a change, and keeps its request as its clerk's last.
-    fn commit(&mut self, entry: Entry) -> Result<(), Memory>
+    fn commit(&mut self, entry: Entry, request: Request) -> Result<(), Memory>
         requires { MayChange self.old.desk entry.change }
-        ensures ok { OnOk result (self.new.desk ≡ desk_with self.old.desk (Some entry)) }
+        ensures ok { OnOk result (self.new.desk ≡ desk_with self.old.desk request (Some entry)) }
         ensures err { OnErr result (self.new.desk ≡ self.old.desk) }
     {
-        let Entry { change, last } = entry;
+        let Entry {
+            change,
+            acknowledgement,
+        } = entry;
         // The room is made first: once the change is made nothing may fail.
         self.make_room()?;
         self.change(change)?;
-        self.keep_last(last);
+        self.keep_last(request, acknowledgement);
         Ok(())
     }
 
@@ -185,13 +193,12 @@ impl Desk {
     }
 
     // Keeps a request as its clerk's last, where it has a number. It takes no memory.
-    fn keep_last(&mut self, last: Option<Last>)
+    fn keep_last(&mut self, request: Request, acknowledgement: Acknowledgement)
         requires { 0 < self.old.spare_lasts }
-        ensures { self.new.desk ≡ with_lasts self.old.desk last }
+        ensures { (config : ConfigOf) → self.new.desk
+            ≡ with_request self.old.desk (meaning_of config request) request acknowledgement }
     {
-        if let Some(last) = last {
-            put_last(&mut self.lasts, last);
-        }
+        keep_request(&mut self.lasts, request, acknowledgement);
     }
 }
 

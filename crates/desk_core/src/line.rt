@@ -1,18 +1,17 @@
 //! One line in, the bytes of its answer out.
-ghost use Rattle.std.specs.Prelude.{◌≡◌, ◌==◌, ◌||◌, Ok, IfOk, OnErr};
+ghost use Rattle.std.specs.Prelude.{◌≡◌, ◌==◌, ◌||◌, IfOk, OnErr};
 ghost use Rattle.std.specs.List.{list_all};
 ghost use Rattle.desk_words.specs.WellFormed.{IsRequest};
 ghost use Rattle.desk_words.specs.ReplyTexts.{RefusalHasScales};
 ghost use Rattle.desk_model.specs.Answers.{event_of_request, is_blank_line, line_event};
 ghost use Rattle.desk_model.specs.Answers.{refusal_event};
-ghost use Rattle.desk_core.specs.Lines.{AnswersLine};
-ghost use Rattle.desk_core.specs.Outcomes.{Prepares};
+ghost use Rattle.desk_core.specs.Lines.{AnswersEvent, AnswersLine};
 
 use crate::clerks::{clerk_of, is_batch};
 use crate::desk::{Desk, StepEnd};
-use crate::outcome::{Prepared, prepare_reply};
+use crate::outcome::{Prepared, reply_line};
 use desk_words::{Refusal, Reply, Request, WordFault};
-use reg_base::{Line, Memory};
+use reg_base::Line;
 use std::alloc::Global;
 
 /// Answers a line: the bytes of its reply with a line feed, or nothing for a blank line. Want of
@@ -24,13 +23,7 @@ pub fn answer_line(alloc: Global, desk: &mut Desk, line: &Line) -> Result<Option
     if is_blank(line) {
         return Ok(None);
     }
-    // The text is made before anything changes: behind the change nothing may fail.
-    let Prepared {
-        reply: _,
-        text,
-        entry,
-    } = prepare_line(alloc, desk, line)?;
-    desk.enter(entry)?;
+    let text = answer_text(alloc, desk, line)?;
     Ok(Some(text))
 }
 
@@ -50,36 +43,51 @@ fn are_blanks(bytes: &[u8]) -> bool
     bytes.iter().all(|b| *b == b' ' || *b == b'\t')
 }
 
-// What a line that is not blank comes to: what its request does, or the refusal of a line that is
-// none.
-fn prepare_line(alloc: Global, desk: &Desk, line: &Line) -> Result<Prepared, Memory>
-    ensures { IfOk result (Prepares desk.now.desk (line_event desk.now.desk line.now)) }
+// Answers a line that is not blank: what its request does, or the refusal of a line that is none.
+fn answer_text(alloc: Global, desk: &mut Desk, line: &Line) -> Result<Vec<u8>, StepEnd>
+    ensures ok { IfOk result
+        (λ text. AnswersEvent (line_event desk.old.desk line.now) text desk.new.desk) }
+    ensures err { OnErr result (desk.new.desk ≡ desk.old.desk) }
 {
     match Request::read(alloc, line) {
-        Ok(request) => prepare_request(alloc, desk, &request),
-        Err(WordFault::Memory) => Err(Memory),
-        Err(fault) => prepare_refusal(alloc, desk, Refusal::BadLine(fault)),
+        Ok(request) => answer_request(alloc, desk, request),
+        Err(WordFault::Memory) => Err(StepEnd::Memory),
+        Err(fault) => answer_refusal(alloc, desk, Refusal::BadLine(fault)),
     }
 }
 
-// What a line's request comes to: no line speaks for the clerk that is built in.
-fn prepare_request(alloc: Global, desk: &Desk, request: &Request) -> Result<Prepared, Memory>
-    requires { IsRequest request.now }
-    ensures { IfOk result
-        (Prepares desk.now.desk (event_of_request desk.now.desk request.now)) }
+// Answers a line's request: no line speaks for the clerk that is built in.
+fn answer_request(
+    alloc: Global,
+    desk: &mut Desk,
+    request: Request,
+) -> Result<Vec<u8>, StepEnd>
+    requires { IsRequest request }
+    ensures ok { IfOk result
+        (λ text. AnswersEvent (event_of_request desk.old.desk request) text desk.new.desk) }
+    ensures err { OnErr result (desk.new.desk ≡ desk.old.desk) }
 {
-    if is_batch(clerk_of(request)) {
-        return prepare_refusal(alloc, desk, Refusal::UnknownClerk);
+    if is_batch(clerk_of(&request)) {
+        return answer_refusal(alloc, desk, Refusal::UnknownClerk);
     }
-    desk.prepare(alloc, request)
+    // The text is made before anything changes: behind the change nothing may fail.
+    let Prepared {
+        reply: _,
+        text,
+        entry,
+    } = desk.prepare(alloc, &request)?;
+    desk.enter(entry, request)?;
+    Ok(text)
 }
 
-// A refusal, which changes nothing.
-fn prepare_refusal(alloc: Global, desk: &Desk, refusal: Refusal) -> Result<Prepared, Memory>
+// Answers by a refusal, which changes nothing.
+fn answer_refusal(alloc: Global, desk: &mut Desk, refusal: Refusal) -> Result<Vec<u8>, StepEnd>
     requires { RefusalHasScales refusal }
-    ensures { IfOk result
-        (Prepares desk.now.desk (refusal_event desk.now.desk refusal)) }
+    ensures ok { IfOk result
+        (λ text. AnswersEvent (refusal_event desk.old.desk refusal) text desk.new.desk) }
+    ensures err { OnErr result (desk.new.desk ≡ desk.old.desk) }
 {
     let _ = desk;
-    prepare_reply(alloc, Reply::Refused(refusal))
+    let text = reply_line(alloc, &Reply::Refused(refusal))?;
+    Ok(text)
 }

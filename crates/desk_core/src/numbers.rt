@@ -3,18 +3,22 @@ ghost use Rattle.std.specs.Prelude.{◌≡◌, ◌<◌, Some, IfOk, option_map, 
 ghost use Rattle.std.specs.Prelude.{vec_len, vec_capacity};
 ghost use Rattle.std.specs.Str.{bytes_eq};
 ghost use Rattle.cfg_model.specs.declared.config.Config.{Config as ConfigOf};
+ghost use Rattle.desk_words.specs.declared.reply.Answer.TheVariants.{Acknowledged};
 ghost use Rattle.desk_words.specs.RequestTexts.{request_text as text_of_request};
+ghost use Rattle.desk_words.specs.WellFormed.{IsRequest};
 ghost use Rattle.desk_model.specs.LastRequests.{last_of as last_request_of};
-ghost use Rattle.desk_model.specs.LastRequests.{with_last, same_number as same_number_of};
+ghost use Rattle.desk_model.specs.LastRequests.{with_last, lasts_with};
+ghost use Rattle.desk_model.specs.LastRequests.{same_number as same_number_of};
+ghost use Rattle.desk_model.specs.LastRequests.{is_same as is_same_request};
 ghost use Rattle.desk_model.specs.LastRequests.{number_test as number_test_of};
 ghost use Rattle.desk_model.specs.Meanings.{meaning_of};
-ghost use Rattle.desk_core.specs.Outcomes.{stop_reply, last_with};
+ghost use Rattle.desk_core.specs.Outcomes.{stop_reply};
 
 use crate::clerks::{clerk_of, number_of};
 use crate::room::put_behind;
 use desk_model::Last;
-use desk_words::{Acknowledgement, Answer, Refusal, Reply, Request};
-use reg_base::{List, Memory, Name};
+use desk_words::{Acknowledgement, Answer, Refusal, Reply, Request, requests_read_back};
+use reg_base::{Line, List, Memory, Name};
 use std::alloc::Global;
 use std::cmp::Ordering;
 
@@ -39,7 +43,7 @@ pub(crate) fn number_reply(
 ) -> Result<Option<Reply>, Memory>
     ensures { (config : ConfigOf) → IfOk result (λ reply. reply ≡ stop_reply
         (number_test_of lasts.now (meaning_of config request.now).clerk
-        (meaning_of config request.now).number (text_of_request request.now))) }
+        (meaning_of config request.now).number request.now)) }
 {
     let Some(number) = number_of(request) else {
         return Ok(None);
@@ -57,10 +61,11 @@ pub(crate) fn number_reply(
 // The reply to a request under the number of its clerk's last one.
 fn same_number_reply(alloc: Global, request: &Request, last: &Last) -> Result<Reply, Memory>
     ensures { IfOk result (λ reply. Some reply ≡ stop_reply (same_number_of
-        (bytes_eq (text_of_request request.now) last.now.text) last.now.acknowledgement)) }
+        (is_same_request request.now last.now.request) last.now.acknowledgement)) }
 {
     let text = request_text(alloc, request)?;
-    if text.as_slice() == last.text.as_slice() {
+    let last_text = request_text(alloc, &last.request)?;
+    if text.as_slice() == last_text.as_slice() {
         Ok(Reply::Done(Answer::Acknowledged(last.acknowledgement)))
     } else {
         Ok(Reply::Refused(Refusal::NumberReused))
@@ -76,30 +81,47 @@ fn request_text(alloc: Global, request: &Request) -> Result<List<u8>, Memory>
     Ok(List::from_vec(text))
 }
 
-// The request as its clerk's last one, where it has a number.
-pub(crate) fn last_request(
-    alloc: Global,
-    request: &Request,
-    acknowledgement: &Acknowledgement,
-) -> Result<Option<Last>, Memory>
-    ensures { (config : ConfigOf) → IfOk result (λ last. last ≡ last_with
-        (meaning_of config request.now).clerk (meaning_of config request.now).number
-        (text_of_request request.now) acknowledgement.now) }
+// The request itself, once more: its canonical text is read back.
+pub(crate) fn copy_request(alloc: Global, request: &Request) -> Result<Request, Memory>
+    requires { IsRequest request.now }
+    ensures { IfOk result (λ copy. copy ≡ request.now) }
 {
-    let Some(number) = number_of(request) else {
-        return Ok(None);
-    };
     let text = request_text(alloc, request)?;
-    Ok(Some(Last {
-        clerk: *clerk_of(request),
-        number,
-        text,
-        acknowledgement: *acknowledgement,
-    }))
+    requests_read_back();
+    match Request::read(alloc, &Line::Text { bytes: text }) {
+        Ok(copy) => Ok(copy),
+        Err(_) => Err(Memory),
+    }
+}
+
+// The last requests once a request was accepted: one with a number takes the place of its clerk's
+// last, for which there is room.
+pub(crate) fn keep_request(
+    lasts: &mut Vec<Last>,
+    request: Request,
+    acknowledgement: Acknowledgement,
+)
+    requires { vec_len lasts.old < vec_capacity lasts.old }
+    ensures { (config : ConfigOf) → lasts.new.items ≡ lasts_with
+        (meaning_of config request).clerk (meaning_of config request).number request
+        (Acknowledged acknowledgement) lasts.old.items }
+{
+    if let Some(number) = number_of(&request) {
+        let clerk = *clerk_of(&request);
+        put_last(
+            lasts,
+            Last {
+                clerk,
+                number,
+                request,
+                acknowledgement,
+            },
+        );
+    }
 }
 
 // Puts a request in the place of its clerk's last one; there is room for one more.
-pub(crate) fn put_last(lasts: &mut Vec<Last>, last: Last)
+fn put_last(lasts: &mut Vec<Last>, last: Last)
     requires { vec_len lasts.old < vec_capacity lasts.old }
     ensures { lasts.new.items ≡ with_last last lasts.old.items }
 {

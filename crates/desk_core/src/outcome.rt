@@ -1,15 +1,9 @@
 //! What a request comes to, before anything is changed.
 ghost use Rattle.std.specs.Prelude.{◌≡◌, ◌++◌, ◌∷◌, [], None, Some, IfOk};
-ghost use Rattle.cfg_model.specs.declared.config.Config.{Config as ConfigOf};
 ghost use Rattle.desk_words.specs.ReplyTexts.{HasScales, reply_text};
-ghost use Rattle.desk_words.specs.RequestTexts.{request_text};
-ghost use Rattle.desk_model.specs.Meanings.{meaning_of};
-ghost use Rattle.desk_core.specs.Outcomes.{last_with};
 ghost use Rattle.desk_core.specs.declared.outcome.Outcome.TheVariants.{Replies};
 
-use crate::numbers::last_request;
-use desk_model::Last;
-use desk_words::{Acknowledgement, Answer, Refusal, Reply, Request};
+use desk_words::{Acknowledgement, Answer, Refusal, Reply};
 use reg_base::{Date, Document, Memory};
 use std::alloc::Global;
 
@@ -36,12 +30,11 @@ pub enum Outcome {
     },
 }
 
-/// What is left to be committed: a change, and the request that is its clerk's last.
+/// What is left to be committed of a request: a change, and what it is acknowledged with.
 #[derive(Drop)]
 pub struct Entry {
     pub change: Change,
-    /// Absent where the request has no number.
-    pub last: Option<Last>,
+    pub acknowledgement: Acknowledgement,
 }
 
 /// A reply with its text, and what is left to be committed: all that a commit needs besides its
@@ -112,10 +105,9 @@ pub(crate) fn prepare_reply(alloc: Global, reply: Reply) -> Result<Prepared, Mem
     })
 }
 
-// A change with the text of its acknowledgement, and its request as its clerk's last one.
+// A change with the text of its acknowledgement.
 pub(crate) fn prepare_change(
     alloc: Global,
-    request: &Request,
     change: Change,
     acknowledgement: Acknowledgement,
 ) -> Result<Prepared, Memory>
@@ -123,13 +115,11 @@ pub(crate) fn prepare_change(
         (λ prepared. prepared.reply ≡ Reply.Done (Answer.Acknowledged acknowledgement)) }
     ensures text { IfOk result
         (λ prepared. prepared.text.items ≡ reply_text prepared.reply ++ 10 ∷ []) }
-    ensures entry { (config : ConfigOf) → IfOk result (λ prepared. prepared.entry ≡ Some (record {
+    ensures entry { IfOk result (λ prepared. prepared.entry ≡ Some (record {
       change = change;
-      last = last_with (meaning_of config request.now).clerk (meaning_of config request.now).number
-          (request_text request.now) acknowledgement;
+      acknowledgement = acknowledgement;
     })) }
 {
-    let last = last_request(alloc, request, &acknowledgement)?;
     let reply = Reply::Done(Answer::Acknowledged(acknowledgement));
     let Prepared {
         reply,
@@ -139,7 +129,10 @@ pub(crate) fn prepare_change(
     Ok(Prepared {
         reply,
         text,
-        entry: Some(Entry { change, last }),
+        entry: Some(Entry {
+            change,
+            acknowledgement,
+        }),
     })
 }
 

@@ -1,5 +1,5 @@
 //! Questions that a desk answers.
-ghost use Rattle.std.specs.Prelude.{◌≡◌, ℕ, List, map, IfOk};
+ghost use Rattle.std.specs.Prelude.{◌≡◌, map, IfOk};
 ghost use Rattle.desk_words.specs.declared.request.Request.TheVariants as RequestIs;
 ghost use Rattle.desk_model.specs.Questions.{question_balance, question_doc};
 ghost use Rattle.desk_model.specs.Stops.{or_stop};
@@ -24,8 +24,8 @@ impl Desk {
         alloc: Global,
         balance: &Balance,
     ) -> Result<Outcome, Memory>
-        ensures { (text : List ℕ) → IfOk result (Comes self.now.desk
-            (or_stop (deed_at self.now.desk (RequestIs.Balance balance.now) text))) }
+        ensures { IfOk result
+            (Comes self.now.desk (or_stop (deed_at self.now.desk (RequestIs.Balance balance.now)))) }
     {
         match self.answer_balance(alloc, balance) {
             Ok(answer) => Ok(Outcome::Replies(Reply::Done(answer))),
@@ -64,8 +64,8 @@ impl Desk {
         alloc: Global,
         question: &DocQuestion,
     ) -> Result<Outcome, Memory>
-        ensures { (text : List ℕ) → IfOk result (Comes self.now.desk
-            (or_stop (deed_at self.now.desk (RequestIs.Doc question.now) text))) }
+        ensures { IfOk result
+            (Comes self.now.desk (or_stop (deed_at self.now.desk (RequestIs.Doc question.now)))) }
     {
         match self.show(alloc, question) {
             Ok(answer) => Ok(Outcome::Replies(Reply::Done(answer))),

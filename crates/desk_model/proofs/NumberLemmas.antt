@@ -9,7 +9,6 @@ use Rattle.desk_words.specs.declared.request.Request.{Request}
 use Rattle.desk_words.specs.declared.fault.WordFault.{WordFault}
 use Rattle.desk_words.specs.declared.reply.Refusal.TheVariants.{UnknownClerk}
 use Rattle.desk_words.specs.Reading.{request}
-use Rattle.desk_words.specs.RequestTexts.{request_text}
 use Rattle.desk_model.specs.declared.last.Last.{Last}
 use Rattle.desk_model.specs.State.{Desk}
 use Rattle.desk_model.specs.Clerks.{is_batch}
@@ -172,7 +171,7 @@ unfoldable pub left_by : (desk : Desk) (r : Request) →
 left_by desk r enters = record {
   clerk = (meaning_at desk r).clerk;
   number = enters.number;
-  text = request_text r;
+  request = r;
   acknowledgement = enters.acknowledgement;
 }
 

@@ -9,17 +9,17 @@ use Rattle.std.specs.declared.cmp.Ordering.TheVariants.{Equal}
 use Rattle.std.proofs.lemmas.Slice.Eq.{bytes_eq-Decides}
 use Rattle.reg_base.specs.declared.line.Line.{Line}
 use Rattle.reg_base.specs.Results.{◌>>=◌, unless}
+use Rattle.desk_words.specs.RequestTexts.{request_text}
 use Rattle.desk_words.specs.declared.request.Request.{Request}
 use Rattle.desk_words.specs.declared.fault.WordFault.{WordFault}
 use Rattle.desk_words.specs.declared.reply.Acknowledgement.{Acknowledgement}
 use Rattle.desk_words.specs.declared.reply.Refusal.TheVariants.{UnknownClerk, NotAllowed, Stale}
 use Rattle.desk_words.specs.Reading.{request}
-use Rattle.desk_words.specs.RequestTexts.{request_text}
 use Rattle.desk_model.specs.declared.last.Last.{Last}
 use Rattle.desk_model.specs.State.{Desk, Command}
 use Rattle.desk_model.specs.Stops.{Stop, refuses, repeats, or_stop}
 use Rattle.desk_model.specs.Clerks.{is_clerk, is_allowed, is_batch}
-use Rattle.desk_model.specs.LastRequests.{last_of, same_number, number_after, number_test}
+use Rattle.desk_model.specs.LastRequests.{is_same, last_of, same_number, number_after, number_test}
 use Rattle.desk_model.specs.Meanings.{meaning_of}
 use Rattle.desk_model.specs.Serial.{deed_effect, effect_of}
 use Rattle.desk_model.specs.Desk.{meaning_at, command_at, tests_of, reply_at, event_of, step}
@@ -243,20 +243,20 @@ pub step-same_number : (desk : Desk) (r : Request) (last : Last) (number : ℕ) 
     is_allowed desk.setting.config (meaning_at desk r).clerk (meaning_at desk r).right ≡ true →
     (meaning_at desk r).number ≡ Some number →
     last_of (meaning_at desk r).clerk desk.serial.lasts ≡ Some last → last.number ≡ number →
-    same_number (bytes_eq (request_text r) last.text) last.acknowledgement ≡ Err stop →
+    same_number (is_same r last.request) last.acknowledgement ≡ Err stop →
     (step desk r).reply ≡ reply_at stop
 unfolding step effect_of
 step-same_number desk r last number stop known allowed numbered found number_is beside =
     ap (λ t. (event_of desk (meaning_at desk r) (command_at desk r) t).reply) stops
   where
     tested : number_test desk.serial.lasts (meaning_at desk r).clerk (meaning_at desk r).number
-        (request_text r) ≡ Err stop
+        r ≡ Err stop
     tested =
-        ap (λ n. number_test desk.serial.lasts (meaning_at desk r).clerk n (request_text r))
+        ap (λ n. number_test desk.serial.lasts (meaning_at desk r).clerk n r)
         numbered
-        ∙ ap (λ l. number_after l number (request_text r)) found
+        ∙ ap (λ l. number_after l number r) found
         ∙ ap (λ o. match_ordering o (Err (refuses (Stale last.number)))
-        (same_number (bytes_eq (request_text r) last.text) last.acknowledgement) (Ok tt))
+        (same_number (is_same r last.request) last.acknowledgement) (Ok tt))
         (sym (nat_cmp_is number last.number Equal (sym number_is)))
         ∙ beside
 
@@ -265,17 +265,17 @@ step-same_number desk r last number stop known allowed numbered found number_is 
         (is_allowed desk.setting.config (meaning_at desk r).clerk (meaning_at desk r).right)
         (refuses (NotAllowed (meaning_at desk r).right)) >>= λ _.
         number_test desk.serial.lasts (meaning_at desk r).clerk (meaning_at desk r).number
-        (request_text r) >>= λ _. or_stop
-        (deed_effect (tests_of desk (meaning_at desk r) (request_text r)) desk.setting desk.serial
+        r >>= λ _. or_stop
+        (deed_effect (tests_of desk (meaning_at desk r) r) desk.setting desk.serial
         (command_at desk r).number (meaning_at desk r).deed))
         ≡ Err stop
     stops = rw (known, allowed, tested)
 
--- the same text beside the last one's is a repeat
-pub same_number-same : (text : List ℕ) (acknowledgement : Acknowledgement) →
-    same_number (bytes_eq text text) acknowledgement ≡ Err (repeats acknowledgement)
-same_number-same text acknowledgement =
-    ap (λ b. same_number b acknowledgement) (bytes_eq-same text)
+-- the same request beside the last one is a repeat
+pub same_number-same : (r : Request) (acknowledgement : Acknowledgement) →
+    same_number (is_same r r) acknowledgement ≡ Err (repeats acknowledgement)
+same_number-same r acknowledgement =
+    ap (λ b. same_number b acknowledgement) (bytes_eq-same (request_text r))
 
 RepeatsAreAnswered-always : (desk : Desk) (lines : List Line) → RepeatsAreAnswered desk lines
 unfolding left_by
@@ -314,7 +314,7 @@ RepeatsAreAnswered-always desk lines =
         let stepped = step-same_number later r last for.entry.enters.number
         (repeats last.acknowledgement) known allowed
         (ap (λ m. m.number) means ∙ for.entry.enters.number_is) found refl
-        (same_number-same (request_text r) last.acknowledgement) in
+        (same_number-same r last.acknowledgement) in
         let read = read-again first line again clerk number for same in
         let outside : is_batch (meaning_at later r).clerk ≡ false =
         (λ i. is_batch (means i).clerk) ∙ for.entry.outside in

@@ -14,7 +14,6 @@ use Rattle.desk_words.specs.declared.reply.Refusal.{Refusal}
 use Rattle.desk_words.specs.declared.request.Request.TheVariants.{Write, Mark, Manual, Activity}
 use Rattle.desk_words.specs.declared.request.Request.TheVariants.{Close, Sweep, Balance, Doc}
 use Rattle.desk_words.specs.declared.reply.Refusal.TheVariants.{UnknownClerk, NotAllowed, Limit}
-use Rattle.desk_words.specs.RequestTexts.{request_text}
 use Rattle.desk_words.specs.declared.reply.Limit.TheVariants.{Documents, Lines, Numbers}
 use Rattle.reg_base.specs.Documents.{document_at}
 use Rattle.desk_model.specs.declared.plan.Plan.{Plan}
@@ -161,7 +160,7 @@ making-drawn tested setting state (Some number) key plan effect numbered h = ref
 
 -- so has each request that a desk accepts
 drawn-at : (desk : Desk) (request : Request) (effect : Effect) → AreNumbered desk.serial →
-    deed_effect (tests_of desk (meaning_at desk request) (request_text request)) desk.setting
+    deed_effect (tests_of desk (meaning_at desk request) request) desk.setting
     desk.serial (command_at desk request).number (meaning_at desk request).deed ≡ Ok effect →
     is_drawn desk.serial (meaning_at desk request).draws (command_at desk request).number ≡ true
 drawn-at desk (Write w) effect numbered h =
@@ -185,13 +184,13 @@ pub Replays-always : (desk : Desk) (request : Request) → Replays desk request
 unfolding effect_of serial
 Replays-always desk request = known (is_clerk desk.setting.config (meaning_at desk request).clerk)
     (is_allowed desk.setting.config (meaning_at desk request).clerk (meaning_at desk request).right)
-    (tests_of desk (meaning_at desk request) (request_text request)).number
+    (tests_of desk (meaning_at desk request) request).number
   where
     known : (b allowed : Bool) (numbered : Result (Unit {0}) Stop) (effect : Effect) →
         AreNumbered desk.serial
         → (unless b (refuses UnknownClerk) >>= λ _. unless allowed
         (refuses (NotAllowed (meaning_at desk request).right)) >>= λ _. numbered >>= λ _. or_stop
-        (deed_effect (tests_of desk (meaning_at desk request) (request_text request)) desk.setting
+        (deed_effect (tests_of desk (meaning_at desk request) request) desk.setting
         desk.serial (command_at desk request).number (meaning_at desk request).deed)) ≡ Ok effect
         → (unless (is_drawn desk.serial (meaning_at desk request).draws
         (command_at desk request).number) bad_number >>= λ _. or_fault
@@ -200,7 +199,7 @@ Replays-always desk request = known (is_clerk desk.setting.config (meaning_at de
         (deed_effect no_tests desk.setting desk.serial (command_at desk request).number
         (meaning_at desk request).deed))) ≡ Ok effect
     known true true (Ok u) effect numbered h =
-        let tests = tests_of desk (meaning_at desk request) (request_text request) in
+        let tests = tests_of desk (meaning_at desk request) request in
         let tried = or_stop-Ok (deed_effect tests desk.setting desk.serial
         (command_at desk request).number (meaning_at desk request).deed) effect h in
         let dropped = deed_effect-no_tests tests desk.setting desk.serial

@@ -24,9 +24,8 @@ use Rattle.desk_words.specs.declared.reply.Answer.TheVariants.{Balance as Balanc
 use Rattle.desk_words.specs.declared.reply.Refusal.{Refusal}
 use Rattle.desk_words.specs.declared.reply.Refusal.TheVariants.{UnknownClerk, NotAllowed, Stale}
 use Rattle.desk_words.specs.declared.reply.Refusal.TheVariants.{UnknownDoc, BadField}
-use Rattle.desk_words.specs.RequestTexts.{request_text}
 use Rattle.desk_model.specs.declared.last.Last.{Last}
-use Rattle.desk_model.specs.LastRequests.{last_of, same_number, number_after, number_test}
+use Rattle.desk_model.specs.LastRequests.{is_same, last_of, same_number, number_after, number_test}
 use Rattle.std.specs.Str.{bytes_eq}
 use Rattle.std.specs.Ordering.{nat_cmp, match_ordering}
 use Rattle.std.specs.declared.cmp.Ordering.{Ordering}
@@ -161,15 +160,15 @@ document-fine state q shows = at (document_at q.doc state.documents)
 -- a change at a desk
 change-fine : (desk : Desk) (request : Request) (number : ℕ) (change : Change) →
     ((sight : Sight) → Plainly (change.plan sight)) →
-    AreFine (change_effect (tests_of desk (meaning_at desk request) (request_text request))
+    AreFine (change_effect (tests_of desk (meaning_at desk request) request)
     desk.setting desk.serial number change)
 change-fine desk request number change =
-    change_effect-fine (tests_of desk (meaning_at desk request) (request_text request))
+    change_effect-fine (tests_of desk (meaning_at desk request) request)
     desk.setting desk.serial number change (limits_of-plainly desk.serial)
 
 -- the deed of each request
 deed-fine : (desk : Desk) (request : Request) →
-    AreFine (deed_effect (tests_of desk (meaning_at desk request) (request_text request))
+    AreFine (deed_effect (tests_of desk (meaning_at desk request) request)
     desk.setting desk.serial (command_at desk request).number (meaning_at desk request).deed)
 deed-fine desk (Write w) =
     change-fine desk (Write w) _ _ (plan_write-plainly desk.setting.config w)
@@ -191,12 +190,12 @@ event-scales desk meaning command (Err refusal) fine = fine.refusal
 
 -- a number is refused without one, and a repeat is acknowledged without one
 number_after-scales : (desk : Desk) (meaning : Meaning) (command : Command) (last : Option Last)
-    (number : ℕ) (text : List ℕ) (done : Result Effect Stop) →
+    (number : ℕ) (r : Request) (done : Result Effect Stop) →
     HasScales (event_of desk meaning command done).reply →
-    HasScales (event_of desk meaning command (number_after last number text >>= λ _. done)).reply
-number_after-scales desk meaning command None number text done fine = fine
-number_after-scales desk meaning command (Some last) number text done fine =
-    at (nat_cmp number last.number) (bytes_eq text last.text)
+    HasScales (event_of desk meaning command (number_after last number r >>= λ _. done)).reply
+number_after-scales desk meaning command None number r done fine = fine
+number_after-scales desk meaning command (Some last) number r done fine =
+    at (nat_cmp number last.number) (is_same r last.request)
   where
     at : (order : Ordering) (same : Bool) → HasScales (event_of desk meaning command
         (match_ordering order (Err (refuses (Stale last.number)))
@@ -207,13 +206,13 @@ number_after-scales desk meaning command (Some last) number text done fine =
     at Greater same = fine
 
 number_test-scales : (desk : Desk) (meaning : Meaning) (command : Command) (lasts : List Last)
-    (clerk : List ℕ) (number : Option ℕ) (text : List ℕ) (done : Result Effect Stop) →
+    (clerk : List ℕ) (number : Option ℕ) (r : Request) (done : Result Effect Stop) →
     HasScales (event_of desk meaning command done).reply →
     HasScales (event_of desk meaning command
-    (number_test lasts clerk number text >>= λ _. done)).reply
-number_test-scales desk meaning command lasts clerk None text done fine = fine
-number_test-scales desk meaning command lasts clerk (Some number) text done fine =
-    number_after-scales desk meaning command (last_of clerk lasts) number text done fine
+    (number_test lasts clerk number r >>= λ _. done)).reply
+number_test-scales desk meaning command lasts clerk None r done fine = fine
+number_test-scales desk meaning command lasts clerk (Some number) r done fine =
+    number_after-scales desk meaning command (last_of clerk lasts) number r done fine
 
 pub HasScales-step : (desk : Desk) (request : Request) → HasScales (step desk request).reply
 unfolding step effect_of
@@ -224,17 +223,17 @@ HasScales-step desk request = at (is_clerk desk.setting.config meaning.clerk)
     meaning = meaning_at desk request
 
     done : Result Effect Refusal
-    done = deed_effect (tests_of desk meaning (request_text request)) desk.setting desk.serial
+    done = deed_effect (tests_of desk meaning request) desk.setting desk.serial
         (command_at desk request).number meaning.deed
 
     at : (known allowed : Bool) → HasScales
         (event_of desk meaning (command_at desk request)
         (unless known (refuses UnknownClerk) >>= λ _. unless allowed
         (refuses (NotAllowed meaning.right)) >>= λ _.
-        number_test desk.serial.lasts meaning.clerk meaning.number (request_text request) >>= λ _.
+        number_test desk.serial.lasts meaning.clerk meaning.number request >>= λ _.
         or_stop done)).reply
     at true true = number_test-scales desk meaning (command_at desk request) desk.serial.lasts
-        meaning.clerk meaning.number (request_text request) (or_stop done)
+        meaning.clerk meaning.number request (or_stop done)
         (event-scales desk meaning (command_at desk request) done (deed-fine desk request))
     at true false = tt
     at false allowed = tt

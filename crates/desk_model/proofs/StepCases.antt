@@ -18,12 +18,11 @@ use Rattle.desk_words.specs.declared.reply.Answer.TheVariants.{Acknowledged}
 use Rattle.desk_words.specs.declared.reply.Reply.TheVariants.{Done}
 use Rattle.desk_words.specs.declared.reply.Refusal.{Refusal}
 use Rattle.desk_words.specs.declared.reply.Refusal.TheVariants.{UnknownClerk, NotAllowed, Stale}
-use Rattle.desk_words.specs.RequestTexts.{request_text}
 use Rattle.desk_model.specs.declared.last.Last.{Last}
 use Rattle.desk_model.specs.State.{Setting, State, Desk, Command}
 use Rattle.desk_model.specs.Stops.{Stop, refuses, or_stop}
 use Rattle.desk_model.specs.Clerks.{is_clerk, is_allowed}
-use Rattle.desk_model.specs.LastRequests.{last_of, with_last, same_number, number_after}
+use Rattle.desk_model.specs.LastRequests.{is_same, last_of, with_last, same_number, number_after}
 use Rattle.desk_model.specs.LastRequests.{number_test}
 use Rattle.desk_model.specs.Plans.{Change, Deed, changes, closes, asks_register, asks_document}
 use Rattle.desk_model.specs.Plans.{Meaning}
@@ -45,10 +44,10 @@ abbrev pub IsAbove : Option Last → ℕ → Type 0
 IsAbove None number = ⊤
 IsAbove (Some last) number = last.number < number
 
-number_after-above : (last : Option Last) (number : ℕ) (text : List ℕ) →
-    number_after last number text ≡ Ok tt → IsAbove last number
-number_after-above None number text h = tt
-number_after-above (Some last) number text h = at (nat_cmp number last.number) refl h
+number_after-above : (last : Option Last) (number : ℕ) (r : Request) →
+    number_after last number r ≡ Ok tt → IsAbove last number
+number_after-above None number r h = tt
+number_after-above (Some last) number r h = at (nat_cmp number last.number) refl h
   where
     same : (b : Bool) → same_number b last.acknowledgement ≡ Ok tt → last.number < number
     same true e = absurd (cc)
@@ -56,10 +55,10 @@ number_after-above (Some last) number text h = at (nat_cmp number last.number) r
 
     at : (order : Ordering) → nat_cmp number last.number ≡ order →
         match_ordering order (Err (refuses (Stale last.number)))
-        (same_number (bytes_eq text last.text) last.acknowledgement) (Ok tt) ≡ Ok tt →
+        (same_number (is_same r last.request) last.acknowledgement) (Ok tt) ≡ Ok tt →
         last.number < number
     at Less is e = absurd (cc)
-    at Equal is e = same (bytes_eq text last.text) e
+    at Equal is e = same (is_same r last.request) e
     at Greater is e = ranked number last.number Greater (sym is)
 
 -- ---- what a deed leaves
@@ -103,7 +102,7 @@ pub record Enters (desk : Desk) (meaning : Meaning) (r : Request) (event : Event
       (record {
         clerk = meaning.clerk;
         number = number;
-        text = request_text r;
+        request = r;
         acknowledgement = acknowledgement;
       }) desk.serial.lasts
   pub setting_is : event.desk.setting ≡ desk.setting
@@ -144,7 +143,7 @@ module _ (desk : Desk) (r : Request) where
       CommitsOne deed →
       is_clerk desk.setting.config clerk ≡ known →
       is_allowed desk.setting.config clerk right ≡ allowed →
-      number_test desk.serial.lasts clerk (Some number) (request_text r) ≡ numbered →
+      number_test desk.serial.lasts clerk (Some number) r ≡ numbered →
       IfOk done (Acknowledges desk.serial) →
       Comes desk (numbered_deed clerk right number draws deed) r
       (event_by desk (numbered_deed clerk right number draws deed) r known allowed numbered done)
@@ -155,7 +154,7 @@ module _ (desk : Desk) (r : Request) where
         known = k;
         allowed = a;
         number_is = refl;
-        above = number_after-above (last_of clerk desk.serial.lasts) number (request_text r) n;
+        above = number_after-above (last_of clerk desk.serial.lasts) number r n;
         commits_it = one (command_at desk r);
         reply_is = ap Done ack.answer_is;
         lasts_are = rw (ack.answer_is, ack.lasts_are);
@@ -175,13 +174,13 @@ module _ (desk : Desk) (r : Request) where
       Comes desk (numbered_deed clerk right number draws (changes change)) r
       (event_by desk (numbered_deed clerk right number draws (changes change)) r
       (is_clerk desk.setting.config clerk) (is_allowed desk.setting.config clerk right)
-      (number_test desk.serial.lasts clerk (Some number) (request_text r))
+      (number_test desk.serial.lasts clerk (Some number) r)
       (change_effect (tests_of desk (numbered_deed clerk right number draws (changes change))
-      (request_text r)) desk.setting desk.serial (command_at desk r).number change))
+      r) desk.setting desk.serial (command_at desk r).number change))
   change-comes clerk right number draws change =
       deed-comes clerk right number draws (changes change) _ _ _ _ (λ command. refl) refl refl refl
       (change_effect-acknowledges (tests_of desk
-      (numbered_deed clerk right number draws (changes change)) (request_text r)) desk.setting
+      (numbered_deed clerk right number draws (changes change)) r) desk.setting
       desk.serial (command_at desk r).number change)
 
   question-stays : (clerk : List ℕ) (deed : Deed) (known allowed : Bool)

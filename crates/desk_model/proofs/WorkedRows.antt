@@ -24,7 +24,7 @@ use Rattle.desk_words.specs.RequestTexts.{request_text}
 use Rattle.desk_model.specs.declared.last.Last.{Last}
 use Rattle.desk_model.specs.State.{Setting, Desk, first_state, first_desk}
 use Rattle.desk_model.specs.Stops.{Stop, refuses, repeats}
-use Rattle.desk_model.specs.LastRequests.{same_number, number_test}
+use Rattle.desk_model.specs.LastRequests.{same_number, number_test, is_same}
 use Rattle.desk_model.specs.Manuals.{space_of, given_set, given_sets, plan_manual}
 use Rattle.desk_model.specs.GivenRecords.{record_in_register, given_record}
 use Rattle.desk_model.specs.RecordSets.{record_set}
@@ -101,13 +101,13 @@ unfolding step effect_of change_effect plan_effect limits_of right_word two
     parse_num digits_from decimals_from last_digits_from units_of
 second_again = step-same_number two (nails_under 2) _ 2 (repeats (DocumentStands true 2 Posted))
     refl refl refl refl refl
-    (same_number-same (request_text (nails_under 2)) (DocumentStands true 2 Posted))
+    (same_number-same (nails_under 2) (DocumentStands true 2 Posted))
 
 -- another request under its number is refused: its text is another one
 later : Request
 later = manual_at 2 None None fifteenth []
 
-number_reused : bytes_eq (request_text later) (request_text (nails_under 2)) ≡ false →
+number_reused : is_same later (nails_under 2) ≡ false →
     (step two later).reply ≡ Refused NumberReused
 unfolding step effect_of change_effect plan_effect limits_of right_word two later
     plan_manual given_sets given_set space_of given_record record_in_register record_set is_code
@@ -123,37 +123,38 @@ unfolding step effect_of change_effect plan_effect limits_of right_word two
     parse_num digits_from decimals_from last_digits_from units_of
 stale = refl
 
--- what a number says where the clerk's last one was 2, of this text
+-- what a number says where this was the clerk's last request, under number 2
 last_was_two : Last
 last_was_two = record {
   clerk = codes "anna";
   number = 2;
-  text = codes "two";
+  request = nails_under 2;
   acknowledgement = DocumentStands true 7 Posted;
 }
 
-asked_with : ℕ → List ℕ → Result (Unit {0}) Stop
-asked_with nr text = number_test (last_was_two ∷ []) (codes "anna") (Some nr) text
+asked_with : ℕ → Request → Result (Unit {0}) Stop
+asked_with nr r = number_test (last_was_two ∷ []) (codes "anna") (Some nr) r
 
 -- again: the kept reply; another text: the number is used again; below: stale; above: it goes on
-again : asked_with 2 (codes "two") ≡ Err (repeats (DocumentStands true 7 Posted))
+again : asked_with 2 (nails_under 2) ≡ Err (repeats (DocumentStands true 7 Posted))
 unfolding asked_with last_was_two
-again = refl
+again = same_number-same (nails_under 2) (DocumentStands true 7 Posted)
 
-another_text : asked_with 2 (codes "three") ≡ Err (refuses NumberReused)
+another_text : is_same later (nails_under 2) ≡ false →
+    asked_with 2 later ≡ Err (refuses NumberReused)
 unfolding asked_with last_was_two
-another_text = refl
+another_text differs = ap (λ b. same_number b (DocumentStands true 7 Posted)) differs
 
-below : asked_with 1 (codes "one") ≡ Err (refuses (Stale 2))
+below : asked_with 1 later ≡ Err (refuses (Stale 2))
 unfolding asked_with last_was_two
 below = refl
 
-above : asked_with 3 (codes "two") ≡ Ok tt
+above : asked_with 3 (nails_under 2) ≡ Ok tt
 unfolding asked_with last_was_two
 above = refl
 
 -- another clerk's numbers are his own
-of_another : number_test (last_was_two ∷ []) (codes "boris") (Some 1) (codes "one") ≡ Ok tt
+of_another : number_test (last_was_two ∷ []) (codes "boris") (Some 1) later ≡ Ok tt
 unfolding last_was_two
 of_another = refl
 

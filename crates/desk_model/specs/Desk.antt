@@ -8,7 +8,6 @@ use Rattle.desk_words.specs.declared.reply.Answer.TheVariants.{Acknowledged}
 use Rattle.desk_model.specs.State.{State, Desk, Command}
 use Rattle.desk_model.specs.Plans.{Deed, Meaning, changes, closes, asks_register, asks_document}
 use Rattle.desk_model.specs.Meanings.{meaning_of}
-use Rattle.desk_words.specs.RequestTexts.{request_text}
 use Rattle.desk_model.specs.Effects.{Effect, Tests}
 use Rattle.desk_model.specs.LastRequests.{number_test}
 use Rattle.desk_model.specs.Stops.{Stop, refuses, repeats}
@@ -19,11 +18,10 @@ use Rattle.desk_model.specs.Serial.{effect_of, state_kept}
 abbrev pub next_number : State → ℕ
 next_number state = if nat_lt state.top greatest_number then state.top + 1 else 0
 
--- what a desk asks besides the request itself, whose canonical text this is: its number, and its
--- limits
-abbrev pub tests_of : Desk → Meaning → List ℕ → Tests
-tests_of desk meaning text = record {
-  number = number_test desk.serial.lasts meaning.clerk meaning.number text;
+-- what a desk asks besides the request itself: its number, and its limits
+abbrev pub tests_of : Desk → Meaning → Request → Tests
+tests_of desk meaning request = record {
+  number = number_test desk.serial.lasts meaning.clerk meaning.number request;
   limits = limits_of desk.serial;
 }
 
@@ -40,9 +38,8 @@ command_at desk request = record {
 
 -- the effect of a request at a desk, or why it goes no further
 abbrev pub effect_at : Desk → Request → Result Effect Stop
-effect_at desk request = effect_of
-    (tests_of desk (meaning_at desk request) (request_text request)) desk.setting desk.serial
-    (command_at desk request)
+effect_at desk request = effect_of (tests_of desk (meaning_at desk request) request) desk.setting
+    desk.serial (command_at desk request)
 
 -- what one request comes to: its reply, the desk after, and the commands that it commits
 pub record Event : Type 0 where
@@ -68,7 +65,7 @@ abbrev pub event_of : Desk → Meaning → Command → Result Effect Stop → Ev
 event_of desk meaning command (Ok effect) = record {
   reply = Done effect.answer;
   desk = record desk {
-    serial = state_kept meaning (request_text command.request) effect;
+    serial = state_kept meaning command.request effect;
   };
   commits = commits_of meaning.deed command;
 }

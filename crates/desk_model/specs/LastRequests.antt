@@ -3,6 +3,8 @@ use Rattle.std.specs.Prelude.{ℕ, Bool, true, false, Option, Some, None, List, 
 use Rattle.std.specs.Prelude.{Err, if◌then◌else◌}
 use Rattle.std.specs.Ordering.{nat_cmp, match_ordering}
 use Rattle.std.specs.Str.{bytes_eq}
+use Rattle.desk_words.specs.declared.request.Request.{Request}
+use Rattle.desk_words.specs.RequestTexts.{request_text}
 use Rattle.desk_words.specs.declared.reply.Acknowledgement.{Acknowledgement}
 use Rattle.desk_words.specs.declared.reply.Answer.{Answer}
 use Rattle.desk_words.specs.declared.reply.Answer.TheVariants.{Acknowledged, Balance, Shown}
@@ -23,36 +25,41 @@ with_last last (l ∷ ls) =
 
 -- the last requests once a request of this clerk was accepted: one with a number takes the place of
 -- the clerk's last
-abbrev pub lasts_with : List ℕ → Option ℕ → List ℕ → Answer → List Last → List Last
-lasts_with clerk None text answer lasts = lasts
-lasts_with clerk (Some number) text (Balance rows scales) lasts = lasts
-lasts_with clerk (Some number) text (Shown document) lasts = lasts
-lasts_with clerk (Some number) text (Acknowledged acknowledgement) lasts = with_last
+abbrev pub lasts_with : List ℕ → Option ℕ → Request → Answer → List Last → List Last
+lasts_with clerk None request answer lasts = lasts
+lasts_with clerk (Some number) request (Balance rows scales) lasts = lasts
+lasts_with clerk (Some number) request (Shown document) lasts = lasts
+lasts_with clerk (Some number) request (Acknowledged acknowledgement) lasts = with_last
     (record {
       clerk = clerk;
       number = number;
-      text = text;
+      request = request;
       acknowledgement = acknowledgement;
     }) lasts
 
--- what the same number says by whether the text is the same too: a repeat, or a number used again
+-- whether two requests have the same canonical text
+abbrev pub is_same : Request → Request → Bool
+is_same request other = bytes_eq (request_text request) (request_text other)
+
+-- what the same number says by whether the request is the same too: a repeat, or a number used again
 abbrev pub same_number : Bool → Acknowledgement → Result (Unit {0}) Stop
 same_number true acknowledgement = Err (repeats acknowledgement)
 same_number false acknowledgement = Err (refuses NumberReused)
 
 -- what a request's number says beside the clerk's last: a lesser one is stale
-abbrev pub number_beside : ℕ → List ℕ → Last → Result (Unit {0}) Stop
-number_beside number text last = match_ordering (nat_cmp number last.number)
+abbrev pub number_beside : ℕ → Request → Last → Result (Unit {0}) Stop
+number_beside number request last = match_ordering (nat_cmp number last.number)
     (Err (refuses (Stale last.number)))
-    (same_number (bytes_eq text last.text) last.acknowledgement)
+    (same_number (is_same request last.request) last.acknowledgement)
     (Ok tt)
 
 -- a first request may have any number
-abbrev pub number_after : Option Last → ℕ → List ℕ → Result (Unit {0}) Stop
-number_after None number text = Ok tt
-number_after (Some last) number text = number_beside number text last
+abbrev pub number_after : Option Last → ℕ → Request → Result (Unit {0}) Stop
+number_after None number request = Ok tt
+number_after (Some last) number request = number_beside number request last
 
 -- a request goes on where its number is above that of its clerk's last one, or it has none
-abbrev pub number_test : List Last → List ℕ → Option ℕ → List ℕ → Result (Unit {0}) Stop
-number_test lasts clerk None text = Ok tt
-number_test lasts clerk (Some number) text = number_after (last_of clerk lasts) number text
+abbrev pub number_test : List Last → List ℕ → Option ℕ → Request → Result (Unit {0}) Stop
+number_test lasts clerk None request = Ok tt
+number_test lasts clerk (Some number) request =
+    number_after (last_of clerk lasts) number request

@@ -3,6 +3,7 @@ use Rattle.std.specs.Prelude.{ℕ, ◌==◌, Bool, true, false, ◌&&◌, nat_lt
 use Rattle.std.specs.Prelude.{option_and_then, List, [], Result, Ok, Err}
 use Rattle.reg_base.specs.Results.{◌>>=◌, unless, some_or}
 use Rattle.reg_base.specs.Records.{records_of, chosen_records}
+use Rattle.desk_words.specs.declared.request.Request.{Request}
 use Rattle.desk_words.specs.declared.reply.Answer.{Answer}
 use Rattle.desk_words.specs.declared.reply.Refusal.{Refusal}
 use Rattle.desk_words.specs.declared.reply.Refusal.TheVariants.{UnknownClerk, NotAllowed}
@@ -104,9 +105,9 @@ effect_of tests setting state command = do
   or_stop (deed_effect tests setting state command.number meaning.deed)
 
 -- the state that a command leaves: one with a number is its clerk's last
-abbrev pub state_kept : Meaning → List ℕ → Effect → State
-state_kept meaning text effect = record effect.state {
-  lasts = lasts_with meaning.clerk meaning.number text effect.answer effect.state.lasts;
+abbrev pub state_kept : Meaning → Request → Effect → State
+state_kept meaning request effect = record effect.state {
+  lasts = lasts_with meaning.clerk meaning.number request effect.answer effect.state.lasts;
 }
 
 -- why the serial machine takes no command: it stops, or its number is none that can be drawn

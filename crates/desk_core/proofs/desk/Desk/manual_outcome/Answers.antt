@@ -10,16 +10,17 @@ use Rattle.desk_core.proofs.DeedLemmas.{drawn-new, change-comes}
 use Rattle.desk_core.proofs.desk.Desk.manual_outcome.Goals as goal
 
 pub returns : goal.returns
-returns c = λ text.
+returns c =
     let desk : Desk = c.args.self.now.desk in
     let config = desk.setting.config in
     let manual = c.args.manual.now in
-    let meaning = meaning_at desk (Manual manual) in
-    let number = (command_at desk (Manual manual)).number in
+    let request = Manual manual in
+    let meaning = meaning_at desk request in
+    let number = (command_at desk request).number in
     let sight = sight_view c.sight-sight.result in
     let tries = subst (λ (v : DeskView). Tries c.plan_manual-plan.result
     (plan_manual v.desk.setting.config manual sight)) c.self.view_is c.plan_manual-plan.ensures.value in
-    change-comes desk (tests_of desk meaning text) number manual.doc manual.key
+    change-comes desk (tests_of desk meaning request) number manual.doc manual.key
     (plan_manual config manual) sight
     c.planned.result (drawn-new desk.serial manual.doc) c.sight-sight.ensures
-    (c.planned.ensures (plan_manual config manual sight) meaning text tries)
+    (c.planned.ensures (plan_manual config manual sight) meaning request tries)

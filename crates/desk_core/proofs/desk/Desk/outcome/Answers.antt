@@ -1,5 +1,4 @@
 use Rattle.std.proofs.Common.{◌≡◌, true, List, ap, ◌∙◌, sym}
-use Rattle.desk_words.specs.RequestTexts.{request_text}
 use Rattle.desk_model.specs.declared.last.Last.{Last}
 use Rattle.desk_model.specs.State.{Desk}
 use Rattle.desk_model.specs.Plans.{Meaning}
@@ -32,4 +31,4 @@ returns-in-Some c =
     number-stops desk request c.in-Some.reply known allowed
     (sym c.in-Some.is ∙ c.in_ok-reply.ensures desk.setting.config
     ∙ ap (λ (ls : List Last). stop_reply (number_test ls meaning.clerk meaning.number
-    (request_text request))) lasts)
+    request)) lasts)

@@ -1,12 +1,11 @@
 use Rattle.std.proofs.Common.{◌≡◌, ◌++◌, ◌∷◌, [], None, Some, subst}
 use Rattle.desk_words.specs.ReplyTexts.{HasScales, reply_text}
-use Rattle.desk_words.specs.RequestTexts.{request_text}
 use Rattle.desk_words.specs.declared.reply.Reply.TheVariants.{Done}
 use Rattle.desk_words.specs.declared.reply.Answer.TheVariants.{Acknowledged}
-use Rattle.desk_model.specs.Desk.{meaning_at, effect_at, step}
+use Rattle.desk_model.specs.Desk.{effect_at, step}
 use Rattle.desk_core.specs.declared.outcome.Outcome.{Outcome}
 use Rattle.desk_core.specs.declared.outcome.Prepared.{Prepared}
-use Rattle.desk_core.specs.Outcomes.{Comes, Prepares, last_with}
+use Rattle.desk_core.specs.Outcomes.{Comes, Prepares}
 use Rattle.desk_core.proofs.StepLemmas.{IfOk-three, step-reply, step-replies, step-changes}
 use Rattle.desk_core.proofs.desk.Desk.prepare.Goals as goal
 
@@ -28,7 +27,7 @@ returns-in-Replies c =
     c.in_ok-reply.ensures in
     IfOk-three (λ (p : Prepared). p.reply ≡ reply)
     (λ (p : Prepared). p.text.items ≡ reply_text reply ++ 10 ∷ [])
-    (λ (p : Prepared). p.entry ≡ None) (Prepares desk (step desk r)) c.prepare_reply.result
+    (λ (p : Prepared). p.entry ≡ None) (Prepares desk r (step desk r)) c.prepare_reply.result
     c.prepare_reply.ensures.reply c.prepare_reply.ensures.text c.prepare_reply.ensures.entry
     (λ p replied printed none. step-replies desk r reply p comes replied printed none)
 
@@ -44,10 +43,9 @@ returns-in-Changes c =
     (λ (p : Prepared). p.text.items ≡ reply_text p.reply ++ 10 ∷ [])
     (λ (p : Prepared). p.entry ≡ Some (record {
       change = change;
-      last = last_with (meaning_at desk r).clerk (meaning_at desk r).number (request_text r)
-          acknowledgement;
-    })) (Prepares desk (step desk r)) c.prepare_change.result
+      acknowledgement = acknowledgement;
+    })) (Prepares desk r (step desk r)) c.prepare_change.result
     c.prepare_change.ensures.reply c.prepare_change.ensures.text
-    (c.prepare_change.ensures.entry desk.setting.config)
+    c.prepare_change.ensures.entry
     (λ p replied printed entered.
     step-changes desk r change acknowledgement p comes replied printed entered)

@@ -8,11 +8,12 @@ use Rattle.desk_core.proofs.DeedLemmas.{change-comes}
 use Rattle.desk_core.proofs.desk.Desk.sweep_outcome.Goals as goal
 
 pub returns : goal.returns
-returns c = λ text.
+returns c =
     let desk : Desk = c.args.self.now.desk in
     let sweep = c.args.sweep.now in
-    let meaning = meaning_at desk (Sweep sweep) in
+    let request = Sweep sweep in
+    let meaning = meaning_at desk request in
     let sight = sight_view c.sight-sight.result in
-    change-comes desk (tests_of desk meaning text) 0 (Some sweep.doc) None plan_sweep sight
+    change-comes desk (tests_of desk meaning request) 0 (Some sweep.doc) None plan_sweep sight
     c.planned.result refl c.sight-sight.ensures
-    (c.planned.ensures (plan_sweep sight) meaning text c.plan_sweep-plan.ensures.value)
+    (c.planned.ensures (plan_sweep sight) meaning request c.plan_sweep-plan.ensures.value)

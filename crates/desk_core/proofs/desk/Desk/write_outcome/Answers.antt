@@ -10,16 +10,17 @@ use Rattle.desk_core.proofs.DeedLemmas.{drawn-new, change-comes}
 use Rattle.desk_core.proofs.desk.Desk.write_outcome.Goals as goal
 
 pub returns : goal.returns
-returns c = λ text.
+returns c =
     let desk : Desk = c.args.self.now.desk in
     let config = desk.setting.config in
     let write = c.args.write.now in
-    let meaning = meaning_at desk (Write write) in
-    let number = (command_at desk (Write write)).number in
+    let request = Write write in
+    let meaning = meaning_at desk request in
+    let number = (command_at desk request).number in
     let sight = sight_view c.sight-sight.result in
     let tries = subst (λ (v : DeskView). Tries c.plan_write-plan.result
     (plan_write v.desk.setting.config write sight)) c.self.view_is c.plan_write-plan.ensures.value in
-    change-comes desk (tests_of desk meaning text) number write.doc write.key
+    change-comes desk (tests_of desk meaning request) number write.doc write.key
     (plan_write config write) sight
     c.planned.result (drawn-new desk.serial write.doc) c.sight-sight.ensures
-    (c.planned.ensures (plan_write config write sight) meaning text tries)
+    (c.planned.ensures (plan_write config write sight) meaning request tries)
