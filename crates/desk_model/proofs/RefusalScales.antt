@@ -4,6 +4,8 @@ use Rattle.std.proofs.Common.{filter, length, Result, Ok, Err, IfErr, slice_get,
 use Rattle.reg_base.specs.declared.fault.EntryFault.{EntryFault}
 use Rattle.reg_base.specs.declared.fault.PostFault.TheVariants.{TooManyRecords}
 use Rattle.reg_base.specs.declared.records.Doc.{Doc}
+use Rattle.reg_base.specs.declared.records.DocState.{DocState}
+use Rattle.reg_base.specs.declared.records.DocState.TheVariants.{Written}
 use Rattle.reg_base.specs.declared.records.Document.{Document}
 use Rattle.reg_base.specs.declared.records.Sets.{Sets}
 use Rattle.reg_base.specs.Results.{◌>>=◌, unless, some_or, none_or, each}
@@ -36,7 +38,7 @@ use Rattle.desk_model.specs.declared.plan.GivenSet.TheVariants.{Records as Given
 use Rattle.desk_model.specs.declared.plan.GivenSet.TheVariants.{Entries as GivenEntries}
 use Rattle.desk_model.specs.declared.plan.Plan.{Plan}
 use Rattle.desk_model.specs.declared.plan.Source.{Source}
-use Rattle.desk_model.specs.declared.plan.Source.TheVariants.{ByHand, Kept, Nothing, Removed}
+use Rattle.desk_model.specs.declared.plan.Source.TheVariants.{Nothing}
 use Rattle.desk_model.specs.declared.plan.Space.{Space as SpaceOf}
 use Rattle.desk_model.specs.declared.plan.Space.TheVariants.{Register as OfRegister}
 use Rattle.desk_model.specs.declared.plan.Space.TheVariants.{Ledger as OfLedger}
@@ -52,12 +54,11 @@ use Rattle.desk_model.specs.States.{dates_are_open, is_posted_manual, is_marked,
 use Rattle.desk_model.specs.States.{plan_mark, plan_activity, plan_sweep}
 use Rattle.desk_model.specs.Fields.{cell_of, is_field, unknown_field, cells_of}
 use Rattle.desk_model.specs.Writes.{is_written_kind, keeps_kind, kind_of_request, content_of}
-use Rattle.desk_model.specs.Writes.{plan_write}
+use Rattle.desk_model.specs.Writes.{plan_content, plan_write}
 use Rattle.desk_model.specs.Entries.{most_entries, is_entry_made, or_entry_fault, entry_at}
 use Rattle.desk_model.specs.Entries.{entries_from, entry_set}
 use Rattle.desk_model.specs.RecordSets.{most_records, is_made, record_set, with_set, with_given}
 use Rattle.desk_model.specs.RecordSets.{no_sets, given_by_hand}
-use Rattle.desk_model.specs.DocumentSets.{document_from}
 use Rattle.desk_model.specs.Limits.{within_limit, records_with, most_kept_records, records_limit}
 use Rattle.desk_model.specs.Limits.{most_documents, documents_with_plan, most_lines, number_is_left}
 use Rattle.desk_model.specs.Limits.{greatest_number, limits_of}
@@ -68,14 +69,14 @@ abbrev pub Plainly : {X : Type 0} → Result X Refusal → Type 0
 Plainly tried = IfErr tried RefusalHasScales
 
 -- one after another, a test, and a value that is there
-then : {X Y : Type 0} (first : Result X Refusal) (next : X → Result Y Refusal) → Plainly first →
+pub then : {X Y : Type 0} (first : Result X Refusal) (next : X → Result Y Refusal) → Plainly first →
     ((x : X) → Plainly (next x)) → Plainly (first >>= next)
 then = IfErr-then RefusalHasScales
 
-test : (b : Bool) (refusal : Refusal) → RefusalHasScales refusal → Plainly (unless b refusal)
+pub test : (b : Bool) (refusal : Refusal) → RefusalHasScales refusal → Plainly (unless b refusal)
 test = IfErr-unless RefusalHasScales
 
-there : {X : Type 0} (value : Option X) (refusal : Refusal) → RefusalHasScales refusal →
+pub there : {X : Type 0} (value : Option X) (refusal : Refusal) → RefusalHasScales refusal →
     Plainly (some_or value refusal)
 there = IfErr-some_or RefusalHasScales
 
@@ -143,13 +144,13 @@ given_sets-plainly config sets =
 
 -- ---- what all changes ask
 
-named_is_seen-plainly : (doc : Option ℕ) (before : Option Document) →
+pub named_is_seen-plainly : (doc : Option ℕ) (before : Option Document) →
     Plainly (named_is_seen doc before)
 named_is_seen-plainly None before = tt
 named_is_seen-plainly (Some number) (Some d) = tt
 named_is_seen-plainly (Some number) None = tt
 
-takes-plainly : (of : Doc → Bool) (before : Option Document) → Plainly (takes of before)
+pub takes-plainly : (of : Doc → Bool) (before : Option Document) → Plainly (takes of before)
 takes-plainly of None = tt
 takes-plainly of (Some d) = test (of d.doc) (WrongState d.doc.state) tt
 
@@ -220,6 +221,15 @@ content_of-plainly config w before =
     (IfErr-each RefusalHasScales (cells_of kind.lines) (cells_of-plainly kind.lines) w.lines)
     (λ lines. tt))))
 
+pub plan_content-plainly : (state : DocState) (source : Source) (config : Config)
+    (w : WriteRequest) (sight : Sight) → Plainly (plan_content state source config w sight)
+unfolding plan_content
+plan_content-plainly state source config w sight =
+    then (content_of config w sight.before) _ (content_of-plainly config w sight.before)
+    (λ content. then (key_is_free sight.holder) _ (key_is_free-plainly sight.holder)
+    (λ x. then (dates_are_open sight.closed sight.before w.date) _
+    (dates_are_open-plainly sight.closed sight.before w.date) (λ y. tt)))
+
 pub plan_write-plainly : (config : Config) (w : WriteRequest) (sight : Sight) →
     Plainly (plan_write config w sight)
 unfolding plan_write
@@ -227,10 +237,7 @@ plan_write-plainly config w sight =
     then (named_is_seen w.doc sight.before) _ (named_is_seen-plainly w.doc sight.before)
     (λ u. then (takes is_written_kind sight.before) _
     (takes-plainly is_written_kind sight.before)
-    (λ v. then (content_of config w sight.before) _ (content_of-plainly config w sight.before)
-    (λ content. then (key_is_free sight.holder) _ (key_is_free-plainly sight.holder)
-    (λ x. then (dates_are_open sight.closed sight.before w.date) _
-    (dates_are_open-plainly sight.closed sight.before w.date) (λ y. tt)))))
+    (λ v. plan_content-plainly Written Nothing config w sight))
 
 pub plan_mark-plainly : (m : Switch) (sight : Sight) → Plainly (plan_mark m sight)
 unfolding plan_mark
@@ -326,18 +333,9 @@ with_set-plainly config date sets (GivenEntries place given) =
     then (entry_set (slice_get config.ledgers place) date given) _
     (entry_set-plainly (slice_get config.ledgers place) date given) (λ entries. tt)
 
-with_given-plainly : (config : Config) (date : ℕ) (sets : Sets) (given : List GivenSet) →
+pub with_given-plainly : (config : Config) (date : ℕ) (sets : Sets) (given : List GivenSet) →
     Plainly (with_given config date sets given)
 with_given-plainly config date sets [] = tt
 with_given-plainly config date sets (set ∷ more) =
     then (with_set config date sets set) _ (with_set-plainly config date sets set)
     (λ made. with_given-plainly config date made more)
-
-pub document_from-plainly : (config : Config) (before : Option Document) (doc : Doc)
-    (source : Source) → Plainly (document_from config before doc source)
-document_from-plainly config before doc (ByHand given) =
-    then (given_by_hand config doc.date given) _
-    (with_given-plainly config doc.date (no_sets config) given) (λ sets. tt)
-document_from-plainly config before doc Kept = tt
-document_from-plainly config before doc Nothing = tt
-document_from-plainly config before doc Removed = tt

@@ -24,8 +24,7 @@ use Rattle.desk_model.specs.Effects.{Effect, Tests, no_tests, effect_with}
 use Rattle.desk_model.specs.Stops.{Stop, refuses, or_stop}
 use Rattle.desk_model.specs.Limits.{greatest_number, most_documents, most_lines, within_limit}
 use Rattle.desk_model.specs.Limits.{documents_with_plan, records_limit, number_is_left, limits_of}
-use Rattle.desk_model.specs.DocumentSets.{document_from}
-use Rattle.desk_model.specs.Serial.{sight_of, plan_effect, change_effect}
+use Rattle.desk_model.specs.Serial.{sight_of, made_at, work_effect, plan_effect, change_effect}
 use Rattle.desk_model.specs.Serial.{deed_effect, effect_of, is_drawn, bad_number}
 use Rattle.desk_model.specs.Serial.{or_fault, serial}
 use Rattle.desk_model.specs.Clerks.{is_clerk, is_allowed}
@@ -65,21 +64,17 @@ is_drawn-next state numbered left =
 
 -- ---- tests that passed can be left out
 
--- the document that a plan makes, at what it sees
-abbrev made_by : Setting → Sight → Plan → Result (Option Document) Refusal
-made_by setting sight plan = document_from setting.config sight.before plan.doc plan.source
-
 -- what stands behind the limits of a plan
 abbrev behind : Setting → State → ℕ → Sight → Plan → Result Effect Refusal
-behind setting state number sight plan = made_by setting sight plan >>= λ after. Ok
-    (effect_with state number plan (record { before = sight.before; after = after }))
+behind setting state number sight plan =
+    made_at setting state sight plan >>= work_effect setting state number sight plan
 
 -- a plan that has an effect passed the limits, and has it without them
 record Passes (tests : Tests) (setting : Setting) (state : State) (number : ℕ) (change : Change)
     (effect : Effect) : Type 0 where
   plan : Plan
   passed : tests.limits (sight_of state number change) plan
-      (made_by setting (sight_of state number change) plan) ≡ Ok tt
+      (made_at setting state (sight_of state number change) plan) ≡ Ok tt
   same : change_effect no_tests setting state number change ≡ Ok effect
 
 change_effect-passes : (tests : Tests) (setting : Setting) (state : State) (number : ℕ)
@@ -94,7 +89,7 @@ change_effect-passes tests setting state number change effect accepted =
     sight = sight_of state number change
 
     test : (plan : Plan) → change.plan sight ≡ Ok plan → (tested : Result (Unit {0}) Refusal) →
-        tests.limits sight plan (made_by setting sight plan) ≡ tested →
+        tests.limits sight plan (made_at setting state sight plan) ≡ tested →
         (tested >>= λ _. behind setting state number sight plan) ≡ Ok effect →
         Passes tests setting state number change effect
     test plan planned (Ok u) is h = record {
@@ -106,10 +101,10 @@ change_effect-passes tests setting state number change effect accepted =
     test plan planned (Err refusal) is h = cc
 
     at : (planned : Result Plan Refusal) → change.plan sight ≡ planned →
-        (planned >>= λ plan. tests.limits sight plan (made_by setting sight plan) >>= λ _. behind
+        (planned >>= λ plan. tests.limits sight plan (made_at setting state sight plan) >>= λ _. behind
         setting state number sight plan) ≡ Ok effect → Passes tests setting state number change
         effect
-    at (Ok plan) is h = test plan is (tests.limits sight plan (made_by setting sight plan)) refl h
+    at (Ok plan) is h = test plan is (tests.limits sight plan (made_at setting state sight plan)) refl h
     at (Err refusal) is h = cc
 
 deed_effect-no_tests : (tests : Tests) (setting : Setting) (state : State) (number : ℕ)

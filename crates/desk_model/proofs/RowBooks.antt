@@ -107,6 +107,7 @@ shop = record {
     clerks = record { name = codes "anna"; rights = everything_allowed }
         ∷ record { name = codes "boris"; rights = everything_allowed } ∷ [];
   };
+  rules = record { kinds = [] };
 }
 
 -- a shop's desk on which nothing was done yet

@@ -9,7 +9,7 @@ use Rattle.reg_base.specs.declared.records.Document.{Document}
 use Rattle.reg_base.specs.declared.records.SumRow.{SumRow}
 use Rattle.reg_base.specs.declared.cut.Cut.TheVariants.{Now}
 use Rattle.reg_base.specs.Documents.{document_at}
-use Rattle.reg_base.specs.Results.{◌>>=◌, unless, some_or}
+use Rattle.reg_base.specs.Results.{◌>>=◌, unless, some_or, none_or}
 use Rattle.reg_base.specs.Records.{Booked, records_within, chosen_records, records_of}
 use Rattle.reg_base.specs.Balances.{sum_rows, row_of, groups_of, is_shown, total}
 use Rattle.cfg_model.specs.declared.config.Config.{Config}
@@ -36,10 +36,11 @@ use Rattle.desk_model.specs.State.{Setting, State, Desk, Command}
 use Rattle.desk_model.specs.declared.plan.Plan.{Plan}
 use Rattle.desk_model.specs.Plans.{Sight, Change, Question, DocumentQuestion, Meaning}
 use Rattle.desk_model.specs.Questions.{everything, question_balance, question_doc}
-use Rattle.desk_model.specs.Effects.{Effect, Tests}
+use Rattle.desk_model.specs.Effects.{Effect, Tests, documents_with}
 use Rattle.desk_model.specs.Stops.{Stop, refuses, or_stop}
-use Rattle.desk_model.specs.DocumentSets.{document_from}
-use Rattle.desk_model.specs.Serial.{sight_of, plan_effect, change_effect, question_answer}
+use Rattle.desk_model.specs.Controls.{control_fault}
+use Rattle.desk_model.specs.Serial.{sight_of, made_at, work_effect, plan_effect, change_effect}
+use Rattle.desk_model.specs.Serial.{question_answer}
 use Rattle.desk_model.specs.Serial.{question_effect, answer_effect, document_answer}
 use Rattle.desk_model.specs.Serial.{document_effect, deed_effect, effect_of}
 use Rattle.desk_model.specs.Clerks.{is_clerk, is_allowed}
@@ -48,7 +49,7 @@ use Rattle.desk_model.proofs.ErrorLemmas.{IfOk-last, IfErr-then}
 use Rattle.desk_model.proofs.RefusalScales.{Plainly, plan_write-plainly, plan_mark-plainly}
 use Rattle.desk_model.proofs.RefusalScales.{plan_manual-plainly, plan_activity-plainly}
 use Rattle.desk_model.proofs.RefusalScales.{plan_sweep-plainly, limits_of-plainly}
-use Rattle.desk_model.proofs.RefusalScales.{document_from-plainly}
+use Rattle.desk_model.proofs.RuleScales.{document_from-plainly, control_fault-plainly}
 
 -- ---- effects
 
@@ -61,25 +62,33 @@ change_effect-fine : (tests : Tests) (setting : Setting) (state : State) (number
     (change : Change) → ((sight : Sight) (plan : Plan) (made : Result (Option Document) Refusal) →
     Plainly (tests.limits sight plan made)) → ((sight : Sight) → Plainly (change.plan sight)) →
     AreFine (change_effect tests setting state number change)
-unfolding change_effect plan_effect
+unfolding change_effect plan_effect work_effect
 change_effect-fine tests setting state number change of_limits of_plan = record {
   answer =
       IfOk-last Answers (change.plan sight) _
       (λ plan. IfOk-last Answers (tests.limits sight plan (made plan)) _
-      (λ u. IfOk-last Answers (made plan) _ (λ after. tt)));
+      (λ u. IfOk-last Answers (made plan) _
+      (λ after. IfOk-last Answers (none_or (fault plan after)) _ (λ held. tt))));
   refusal =
       IfErr-then RefusalHasScales (change.plan sight) _ (of_plan sight)
       (λ plan. IfErr-then RefusalHasScales (tests.limits sight plan (made plan)) _
       (of_limits sight plan (made plan))
       (λ u. IfErr-then RefusalHasScales (made plan) _
-      (document_from-plainly setting.config sight.before plan.doc plan.source) (λ after. tt)));
+      (document_from-plainly setting state.documents sight.before plan.doc plan.source)
+      (λ after. IfErr-then RefusalHasScales (none_or (fault plan after)) _
+      (control_fault-plainly setting plan (documents_with sight.before after state.documents)
+      sight.before after) (λ held. tt))));
 }
   where
     sight : Sight
     sight = sight_of state number change
 
     made : Plan → Result (Option Document) Refusal
-    made plan = document_from setting.config sight.before plan.doc plan.source
+    made plan = made_at setting state sight plan
+
+    fault : Plan → Option Document → Option Refusal
+    fault plan after = control_fault setting plan
+        (documents_with sight.before after state.documents) sight.before after
 
     Answers : Effect → Type 0
     Answers effect = AnswerHasScales effect.answer

@@ -8,7 +8,7 @@ use Rattle.std.specs.declared.cmp.Ordering.{Ordering}
 use Rattle.std.specs.declared.cmp.Ordering.TheVariants.{Less, Equal, Greater}
 use Rattle.std.specs.Str.{bytes_eq}
 use Rattle.reg_base.specs.declared.right.Right.{Right}
-use Rattle.reg_base.specs.Results.{◌>>=◌, unless}
+use Rattle.reg_base.specs.Results.{◌>>=◌, unless, none_or}
 use Rattle.desk_words.specs.declared.request.Request.{Request}
 use Rattle.desk_words.specs.declared.request.Request.TheVariants.{Write, Mark, Manual, Activity}
 use Rattle.desk_words.specs.declared.request.Request.TheVariants.{Close, Sweep, Balance, Doc}
@@ -29,8 +29,9 @@ use Rattle.desk_model.specs.Plans.{Meaning}
 use Rattle.desk_model.specs.Meanings.{asking}
 use Rattle.desk_model.specs.Questions.{question_balance, question_doc}
 use Rattle.desk_model.specs.Effects.{Effect, Tests, close_effect}
-use Rattle.desk_model.specs.DocumentSets.{document_from}
-use Rattle.desk_model.specs.Serial.{sight_of, plan_effect, change_effect, answer_effect}
+use Rattle.desk_model.specs.Controls.{control_fault}
+use Rattle.desk_model.specs.Effects.{documents_with}
+use Rattle.desk_model.specs.Serial.{sight_of, made_at, work_effect, plan_effect, change_effect, answer_effect}
 use Rattle.desk_model.specs.Serial.{question_answer, question_effect, document_answer}
 use Rattle.desk_model.specs.Serial.{document_effect, effect_of}
 use Rattle.desk_model.specs.Desk.{Event, meaning_at, command_at, tests_of, commits_of, event_of}
@@ -71,15 +72,16 @@ record Acknowledges (state : State) (effect : Effect) : Type 0 where
 
 change_effect-acknowledges : (tests : Tests) (setting : Setting) (state : State) (number : ℕ)
     (change : Change) → IfOk (change_effect tests setting state number change) (Acknowledges state)
-unfolding change_effect plan_effect
+unfolding change_effect plan_effect work_effect
 change_effect-acknowledges tests setting state number change =
     let sight = sight_of state number change in
     IfOk-last (Acknowledges state) (change.plan sight) _
     (λ plan. IfOk-last (Acknowledges state) (tests.limits sight plan
-    (document_from setting.config sight.before plan.doc plan.source)) _
-    (λ u. IfOk-last (Acknowledges state)
-    (document_from setting.config sight.before plan.doc plan.source) _
-    (λ after. record { acknowledgement = _; answer_is = refl; lasts_are = refl })))
+    (made_at setting state sight plan)) _
+    (λ u. IfOk-last (Acknowledges state) (made_at setting state sight plan) _
+    (λ after. IfOk-last (Acknowledges state) (none_or (control_fault setting plan
+    (documents_with sight.before after state.documents) sight.before after)) _
+    (λ held. record { acknowledgement = _; answer_is = refl; lasts_are = refl }))))
 
 -- ---- the cases
 

@@ -26,7 +26,7 @@ use Rattle.desk_model.specs.GivenRecords.{record_in_register, given_record}
 use Rattle.desk_model.specs.RecordSets.{record_set}
 use Rattle.desk_model.specs.States.{plan_mark, plan_activity, plan_sweep}
 use Rattle.desk_model.specs.Fields.{cells_of}
-use Rattle.desk_model.specs.Writes.{kind_of_request, content_of, plan_write}
+use Rattle.desk_model.specs.Writes.{kind_of_request, content_of, plan_content, plan_write}
 use Rattle.desk_model.specs.Questions.{question_balance}
 use Rattle.desk_model.specs.Limits.{limits_of}
 use Rattle.desk_model.specs.Serial.{plan_effect, change_effect, question_answer}
@@ -57,7 +57,7 @@ marked_and_closed : replies (after empty (nails_under 1 ∷ []))
     ∷ [])
     ≡ stands true 1 Marked ∷ Refused (WrongState Marked)
     ∷ Done (Acknowledged (BooksClosed february)) ∷ Refused (Closed february) ∷ []
-unfolding step effect_of change_effect plan_effect limits_of right_word
+unfolding step effect_of change_effect plan_effect work_effect limits_of right_word
     plan_manual given_sets given_set space_of given_record record_in_register record_set is_code
     parse_num digits_from decimals_from last_digits_from units_of
     plan_mark plan_activity plan_sweep
@@ -68,7 +68,7 @@ mark_stays : replies (after empty (nails_under 1 ∷ []))
     (mark 2 1 false ∷ mark 2 1 true ∷ mark 3 1 true ∷ mark 3 1 false ∷ goods_at None ∷ [])
     ≡ Refused (WrongState Posted) ∷ stands true 1 Marked ∷ Refused (WrongState Marked)
     ∷ Refused (WrongState Marked) ∷ no_rows ∷ []
-unfolding step effect_of change_effect plan_effect limits_of right_word
+unfolding step effect_of change_effect plan_effect work_effect limits_of right_word
     plan_manual given_sets given_set space_of given_record record_in_register record_set is_code
     parse_num digits_from decimals_from last_digits_from units_of
     plan_mark plan_activity plan_sweep
@@ -80,8 +80,8 @@ mark_of_written : replies (after empty (fill 1 [] ∷ []))
     (mark 2 1 false ∷ mark 2 1 true ∷ mark 3 1 false ∷ activity 4 1 false ∷ [])
     ≡ Refused (WrongState Written) ∷ stands true 1 Marked ∷ stands true 1 Written
     ∷ Refused (WrongState Written) ∷ []
-unfolding step effect_of change_effect plan_effect limits_of right_word
-    plan_write kind_of_request content_of cells_of is_code parse_num digits_from decimals_from
+unfolding step effect_of change_effect plan_effect work_effect limits_of right_word
+    plan_write plan_content kind_of_request content_of cells_of is_code parse_num digits_from decimals_from
     last_digits_from units_of
     plan_mark plan_activity plan_sweep
 mark_of_written = refl
@@ -92,7 +92,7 @@ activity_off_and_on : replies (after empty (nails_under 1 ∷ []))
     ∷ activity 5 1 false ∷ mark 6 1 true ∷ [])
     ≡ stands false 1 Posted ∷ no_rows ∷ stands false 1 Posted ∷ stands true 1 Posted
     ∷ rows_are (codes "nail") 10_000 5_000 ∷ stands false 1 Posted ∷ stands false 1 Marked ∷ []
-unfolding step effect_of change_effect plan_effect limits_of right_word
+unfolding step effect_of change_effect plan_effect work_effect limits_of right_word
     plan_manual given_sets given_set space_of given_record record_in_register record_set is_code
     parse_num digits_from decimals_from last_digits_from units_of
     plan_mark plan_activity plan_sweep
@@ -113,10 +113,10 @@ closed_period : replies (after empty
     ∷ Refused (Closed eleventh) ∷ Refused (Closed eleventh) ∷ Refused (Closed eleventh)
     ∷ stands true 2 Posted ∷ Done (Acknowledged (BooksClosed tenth)) ∷ stands true 1 Marked
     ∷ Done (Acknowledged (BooksClosed eleventh)) ∷ Refused (Closed eleventh) ∷ []
-unfolding step effect_of change_effect plan_effect limits_of right_word
+unfolding step effect_of change_effect plan_effect work_effect limits_of right_word
     plan_manual given_sets given_set space_of given_record record_in_register record_set is_code
     parse_num digits_from decimals_from last_digits_from units_of
-    plan_write kind_of_request content_of cells_of
+    plan_write plan_content kind_of_request content_of cells_of
     plan_mark plan_activity plan_sweep
 closed_period = refl
 
@@ -126,10 +126,10 @@ unknown_document : replies (after empty (nails_under 1 ∷ []))
     ∷ write_at 2 (Some 2) None (codes "fill") morning [] [] ∷ sweep 2 1 ∷ [])
     ≡ Refused UnknownDoc ∷ Refused UnknownDoc ∷ Refused UnknownDoc ∷ Refused UnknownDoc
     ∷ Refused UnknownDoc ∷ Refused (WrongState Posted) ∷ []
-unfolding step effect_of change_effect plan_effect limits_of right_word
+unfolding step effect_of change_effect plan_effect work_effect limits_of right_word
     plan_manual given_sets given_set space_of given_record record_in_register record_set is_code
     parse_num digits_from decimals_from last_digits_from units_of
-    plan_write kind_of_request content_of cells_of
+    plan_write plan_content kind_of_request content_of cells_of
     plan_mark plan_activity plan_sweep
 unknown_document = refl
 
@@ -144,17 +144,17 @@ key_taken_and_freed : replies empty
     ∷ manual_at 4 None (Some (codes "k")) morning [] ∷ [])
     ≡ stands true 1 Posted ∷ Refused (KeyTaken 1) ∷ Refused (KeyTaken 1) ∷ stands true 1 Marked
     ∷ Refused (KeyTaken 1) ∷ Done (Acknowledged (Swept 1)) ∷ stands true 2 Posted ∷ []
-unfolding step effect_of change_effect plan_effect limits_of right_word
+unfolding step effect_of change_effect plan_effect work_effect limits_of right_word
     plan_manual given_sets given_set space_of given_record record_in_register record_set is_code
     parse_num digits_from decimals_from last_digits_from units_of
-    plan_write kind_of_request content_of cells_of
+    plan_write plan_content kind_of_request content_of cells_of
     plan_mark plan_activity plan_sweep
 key_taken_and_freed = refl
 
 -- a swept document is not there any more
 swept : map (λ d. d.doc.number) (after empty
     (nails_under 1 ∷ nails_under 2 ∷ mark 3 1 true ∷ sweep 4 1 ∷ [])).serial.documents ≡ 2 ∷ []
-unfolding step effect_of change_effect plan_effect limits_of right_word
+unfolding step effect_of change_effect plan_effect work_effect limits_of right_word
     plan_manual given_sets given_set space_of given_record record_in_register record_set is_code
     parse_num digits_from decimals_from last_digits_from units_of
     plan_mark plan_activity plan_sweep
@@ -170,7 +170,7 @@ replaced_set : replies (after empty
     (manual_at 3 (Some 1) None tenth (received (codes "bolt") (codes "2.000") (codes "3.00") ∷ [])
     ∷ goods_at None ∷ manual_at 4 None (Some (codes "k")) morning [] ∷ [])
     ≡ stands true 1 Posted ∷ rows_are (codes "bolt") 2_000 300 ∷ Refused (KeyTaken 1) ∷ []
-unfolding step effect_of change_effect plan_effect limits_of right_word
+unfolding step effect_of change_effect plan_effect work_effect limits_of right_word
     plan_manual given_sets given_set space_of given_record record_in_register record_set is_code
     parse_num digits_from decimals_from last_digits_from units_of
     plan_mark plan_activity plan_sweep
@@ -194,7 +194,7 @@ comments : map (λ desk. map (λ d. d.doc.comment) desk.serial.documents)
     (after empty (commented ∷ [])
     ∷ after empty (commented ∷ manual_at 2 (Some 1) None morning [] ∷ []) ∷ [])
     ≡ (codes "by post" ∷ []) ∷ ([] ∷ []) ∷ []
-unfolding step effect_of change_effect plan_effect limits_of right_word commented
+unfolding step effect_of change_effect plan_effect work_effect limits_of right_word commented
     plan_manual given_sets
 comments = refl
 
@@ -202,10 +202,10 @@ comments = refl
 neither_takes_the_other : replies (after empty (nails_under 1 ∷ fill 2 [] ∷ []))
     (write_at 3 (Some 1) None (codes "fill") tenth [] [] ∷ manual_at 3 (Some 2) None tenth [] ∷ [])
     ≡ Refused (WrongState Posted) ∷ Refused (WrongState Written) ∷ []
-unfolding step effect_of change_effect plan_effect limits_of right_word
+unfolding step effect_of change_effect plan_effect work_effect limits_of right_word
     plan_manual given_sets given_set space_of given_record record_in_register record_set is_code
     parse_num digits_from decimals_from last_digits_from units_of
-    plan_write kind_of_request content_of cells_of
+    plan_write plan_content kind_of_request content_of cells_of
 neither_takes_the_other = refl
 
 -- ---- documents of a type
@@ -222,8 +222,8 @@ written_again : replies empty
     ∷ write_at 4 (Some 1) None (codes "fill") twelfth [] [] ∷ [])
     ≡ stands true 1 Written ∷ stands true 1 Written ∷ bad_field Kind ∷ bad_field Kind
     ∷ stands true 1 Marked ∷ Refused (WrongState Marked) ∷ []
-unfolding step effect_of change_effect plan_effect limits_of right_word
-    plan_write kind_of_request content_of cells_of is_code parse_num digits_from decimals_from
+unfolding step effect_of change_effect plan_effect work_effect limits_of right_word
+    plan_write plan_content kind_of_request content_of cells_of is_code parse_num digits_from decimals_from
     last_digits_from units_of
     plan_mark plan_activity plan_sweep one_nail
 written_again = refl
@@ -231,8 +231,8 @@ written_again = refl
 -- its fields stand in the order of the configuration, at their scales
 written_cells : map (λ d. d.doc.lines) (after empty (fill 1 (one_nail ∷ []) ∷ [])).serial.documents
     ≡ ((CodeCell (codes "nail") ∷ NumCell (pos 1_000) ∷ NumCell (pos 250) ∷ []) ∷ []) ∷ []
-unfolding step effect_of change_effect plan_effect limits_of right_word
-    plan_write kind_of_request content_of cells_of is_code parse_num digits_from decimals_from
+unfolding step effect_of change_effect plan_effect work_effect limits_of right_word
+    plan_write plan_content kind_of_request content_of cells_of is_code parse_num digits_from decimals_from
     last_digits_from units_of one_nail
 written_cells = refl
 
@@ -252,7 +252,7 @@ wrong_fields : replies empty
     ≡ bad_field (Named (codes "warehouse")) ∷ bad_field (Named (codes "warehouse"))
     ∷ bad_field (Named (codes "amount")) ∷ bad_field (Named (codes "quantity"))
     ∷ bad_field (Named (codes "amount")) ∷ bad_field (Named (codes "price")) ∷ []
-unfolding step effect_of change_effect plan_effect limits_of right_word
-    plan_write kind_of_request content_of cells_of is_code parse_num digits_from decimals_from
+unfolding step effect_of change_effect plan_effect work_effect limits_of right_word
+    plan_write plan_content kind_of_request content_of cells_of is_code parse_num digits_from decimals_from
     last_digits_from units_of one_nail
 wrong_fields = refl

@@ -24,7 +24,7 @@ use Rattle.desk_model.specs.GivenRecords.{given_entry}
 use Rattle.desk_model.specs.RecordSets.{record_set}
 use Rattle.desk_model.specs.Entries.{entry_at}
 use Rattle.desk_model.specs.Fields.{cells_of}
-use Rattle.desk_model.specs.Writes.{kind_of_request, content_of, plan_write}
+use Rattle.desk_model.specs.Writes.{kind_of_request, content_of, plan_content, plan_write}
 use Rattle.desk_model.specs.Limits.{limits_of}
 use Rattle.desk_model.specs.Serial.{plan_effect, change_effect, document_answer, document_effect}
 use Rattle.desk_model.specs.Serial.{effect_of}
@@ -59,7 +59,7 @@ spaces : replies empty
     ∷ [])
     ∷ manual 1 (set_of (codes "goods") [] ∷ set_of (codes "main") [] ∷ []) ∷ [])
     ≡ bad_field Space ∷ bad_field Values ∷ bad_field Space ∷ stands true 1 Posted ∷ []
-unfolding step effect_of change_effect plan_effect limits_of right_word
+unfolding step effect_of change_effect plan_effect work_effect limits_of right_word
     plan_manual given_sets given_set space_of given_record record_in_register record_set is_code
     parse_num digits_from decimals_from last_digits_from units_of
     given_entry entry_in_ledger entry_at entry_check account_at
@@ -78,7 +78,7 @@ wrong_records : replies empty
     (codes "1" ∷ codes "0" ∷ []) ∷ []) ∷ [])
     ≡ bad_field Values ∷ bad_field Sums ∷ bad_field Kind ∷ bad_field Kind ∷ bad_field Values
     ∷ stands true 1 Posted ∷ []
-unfolding step effect_of change_effect plan_effect limits_of right_word into
+unfolding step effect_of change_effect plan_effect work_effect limits_of right_word into
     plan_manual given_sets given_set space_of given_record record_in_register record_set is_code
     parse_num digits_from decimals_from last_digits_from units_of
 wrong_records = refl
@@ -88,7 +88,7 @@ zeros_are_not_made : map_lines (after empty (into (codes "goods")
     (of_register Receipt (codes "nail" ∷ []) (codes "0" ∷ codes "0.00" ∷ [])
     ∷ of_register Expense (codes "bolt" ∷ []) (codes "-1" ∷ codes "0" ∷ []) ∷ []) ∷ []))
     ≡ (1 ∷ []) ∷ []
-unfolding step effect_of change_effect plan_effect limits_of right_word into map_lines
+unfolding step effect_of change_effect plan_effect work_effect limits_of right_word into map_lines
     plan_manual given_sets given_set space_of given_record record_in_register record_set is_code
     parse_num digits_from decimals_from last_digits_from units_of
 zeros_are_not_made = refl
@@ -96,7 +96,7 @@ zeros_are_not_made = refl
 -- a document has a list for each register and each ledger
 lists_are_there : map (λ d. length d.sets.registers ∷ length d.sets.ledgers ∷ [])
     (after empty (manual 1 [] ∷ [])).serial.documents ≡ (3 ∷ 1 ∷ []) ∷ []
-unfolding step effect_of change_effect plan_effect limits_of right_word
+unfolding step effect_of change_effect plan_effect work_effect limits_of right_word
     plan_manual given_sets given_set space_of given_record record_in_register record_set is_code
     parse_num digits_from decimals_from last_digits_from units_of
 lists_are_there = refl
@@ -115,7 +115,7 @@ wrong_forms : replies empty
     (into (codes "main") (of_register Receipt (codes "nail" ∷ []) (codes "1" ∷ codes "1" ∷ []) ∷ [])
     ∷ into (codes "main") (of_ledger None None (codes "1.005") ∷ []) ∷ [])
     ≡ bad_field Values ∷ bad_field Amount ∷ []
-unfolding step effect_of change_effect plan_effect limits_of right_word into
+unfolding step effect_of change_effect plan_effect work_effect limits_of right_word into
     plan_manual given_sets given_set space_of given_record record_in_register record_set is_code
     parse_num digits_from decimals_from last_digits_from units_of
     given_entry entry_in_ledger entry_at entry_check account_at
@@ -132,7 +132,7 @@ refused_entries : replies empty
     ∷ into (codes "main") (nothing ∷ bought ∷ nothing ∷ bought ∷ []) ∷ [])
     ≡ Refused (Rule (Entry 0 2 ExtraCount) None) ∷ Refused (Rule (Entry 0 1 UnknownAccount) None)
     ∷ Refused (Rule (Entry 0 1 Sides) None) ∷ stands true 1 Posted ∷ []
-unfolding step effect_of change_effect plan_effect limits_of right_word into bought nothing
+unfolding step effect_of change_effect plan_effect work_effect limits_of right_word into bought nothing
     plan_manual given_sets given_set space_of given_record record_in_register record_set is_code
     parse_num digits_from decimals_from last_digits_from units_of
     given_entry entry_in_ledger entry_at entry_check account_at
@@ -140,7 +140,7 @@ refused_entries = refl
 
 entries_have_lines : entry_lines (after empty
     (into (codes "main") (nothing ∷ bought ∷ nothing ∷ bought ∷ []) ∷ [])) ≡ (1 ∷ 2 ∷ []) ∷ []
-unfolding step effect_of change_effect plan_effect limits_of right_word into bought nothing
+unfolding step effect_of change_effect plan_effect work_effect limits_of right_word into bought nothing
     entry_lines
     plan_manual given_sets given_set space_of given_record record_in_register record_set is_code
     parse_num digits_from decimals_from last_digits_from units_of
@@ -170,7 +170,7 @@ shown_by_hand : replies (after empty
           ∷ set_of (codes "main") (bought ∷ []) ∷ [];
       state = Posted;
     })) ∷ Refused UnknownDoc ∷ []
-unfolding step effect_of change_effect plan_effect limits_of right_word bought
+unfolding step effect_of change_effect plan_effect work_effect limits_of right_word bought
     plan_manual given_sets given_set space_of given_record record_in_register record_set is_code
     parse_num digits_from decimals_from last_digits_from units_of
     given_entry entry_in_ledger entry_at entry_check account_at
@@ -195,7 +195,7 @@ shown_of_type : replies (after empty
       sets = [];
       state = Written;
     })) ∷ []
-unfolding step effect_of change_effect plan_effect limits_of right_word
-    plan_write kind_of_request content_of cells_of is_code parse_num digits_from decimals_from
+unfolding step effect_of change_effect plan_effect work_effect limits_of right_word
+    plan_write plan_content kind_of_request content_of cells_of is_code parse_num digits_from decimals_from
     last_digits_from units_of sum_text units_text number_text document_answer document_effect
 shown_of_type = refl

@@ -34,7 +34,7 @@ use Rattle.desk_model.specs.GivenRecords.{given_entry}
 use Rattle.desk_model.specs.RecordSets.{record_set}
 use Rattle.desk_model.specs.Entries.{entry_at}
 use Rattle.desk_model.specs.Fields.{cells_of}
-use Rattle.desk_model.specs.Writes.{kind_of_request, content_of, plan_write}
+use Rattle.desk_model.specs.Writes.{kind_of_request, content_of, plan_content, plan_write}
 use Rattle.desk_model.specs.States.{plan_mark, plan_activity, plan_sweep}
 use Rattle.desk_model.specs.Limits.{within_limit, most_documents, most_kept_records}
 use Rattle.desk_model.specs.Limits.{records_with, limits_of}
@@ -66,7 +66,7 @@ no_number_left : replies no_more
     ≡ Refused (Limit Numbers 4_294_967_295) ∷ stands true 1 Posted
     ∷ Done (Acknowledged (BooksClosed eleventh)) ∷ Refused (Closed eleventh)
     ∷ Done (Acknowledged (BooksClosed tenth)) ∷ stands true 1 Marked ∷ []
-unfolding step effect_of change_effect plan_effect limits_of right_word no_more refused_entry
+unfolding step effect_of change_effect plan_effect work_effect limits_of right_word no_more refused_entry
     plan_manual given_sets given_set space_of given_record record_in_register record_set is_code
     parse_num digits_from decimals_from last_digits_from units_of
     given_entry entry_in_ledger entry_at entry_check account_at
@@ -77,7 +77,7 @@ no_number_left = refl
 last_number : replies (record empty { serial = record first_state { top = 4_294_967_294 } })
     (nails_under 1 ∷ nails_under 2 ∷ [])
     ≡ stands true 4_294_967_295 Posted ∷ Refused (Limit Numbers 4_294_967_295) ∷ []
-unfolding step effect_of change_effect plan_effect limits_of right_word
+unfolding step effect_of change_effect plan_effect work_effect limits_of right_word
     plan_manual given_sets given_set space_of given_record record_in_register record_set is_code
     parse_num digits_from decimals_from last_digits_from units_of
 last_number = refl
@@ -103,8 +103,8 @@ too_many_lines : replies blank_lines
     (write_at 1 None None (codes "note") tenth [] (so_many 1_001 [])
     ∷ write_at 1 None None (codes "note") tenth [] (so_many 1_000 []) ∷ [])
     ≡ Refused (Limit Lines 1_000) ∷ stands true 1 Written ∷ []
-unfolding step effect_of change_effect plan_effect limits_of right_word blank_lines so_many
-    plan_write kind_of_request content_of cells_of
+unfolding step effect_of change_effect plan_effect work_effect limits_of right_word blank_lines so_many
+    plan_write plan_content kind_of_request content_of cells_of
 too_many_lines = refl
 
 -- ---- documents and records
@@ -149,7 +149,7 @@ grown records entries =
 -- those by which it grows are added, and where it shrinks none is taken off
 records_are_counted : map (records_with four seen)
     (grown 1 1 ∷ grown 2 1 ∷ grown 2 3 ∷ grown 0 1 ∷ None ∷ []) ≡ 4 ∷ 5 ∷ 7 ∷ 4 ∷ 4 ∷ []
-unfolding step effect_of change_effect plan_effect limits_of right_word holding grown
+unfolding step effect_of change_effect plan_effect work_effect limits_of right_word holding grown
     four seen so_many one_nail bought
     plan_manual given_sets given_set space_of given_record record_in_register record_set is_code
     parse_num digits_from decimals_from last_digits_from units_of

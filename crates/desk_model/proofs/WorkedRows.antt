@@ -49,7 +49,7 @@ first_day : replies empty
       group = Code (codes "nail") ∷ [];
       sums = pos 10_000 ∷ pos 5_000 ∷ [];
     } ∷ []) (3 ∷ 2 ∷ [])) ∷ stands true 2 Posted ∷ []
-unfolding step effect_of change_effect plan_effect limits_of right_word
+unfolding step effect_of change_effect plan_effect work_effect limits_of right_word
     plan_manual given_sets given_set space_of given_record record_in_register record_set is_code
     parse_num digits_from decimals_from last_digits_from units_of
     question_effect question_answer question_balance sum_rows
@@ -96,7 +96,7 @@ two = after empty (nails_under 1 ∷ nails_under 2 ∷ [])
 
 -- the second one again is given the same reply, and leaves the desk as it is
 second_again : (step two (nails_under 2)).reply ≡ stands true 2 Posted
-unfolding step effect_of change_effect plan_effect limits_of right_word two
+unfolding step effect_of change_effect plan_effect work_effect limits_of right_word two
     plan_manual given_sets given_set space_of given_record record_in_register record_set is_code
     parse_num digits_from decimals_from last_digits_from units_of
 second_again = step-same_number two (nails_under 2) _ 2 (repeats (DocumentStands true 2 Posted))
@@ -109,7 +109,7 @@ later = manual_at 2 None None fifteenth []
 
 number_reused : is_same later (nails_under 2) ≡ false →
     (step two later).reply ≡ Refused NumberReused
-unfolding step effect_of change_effect plan_effect limits_of right_word two later
+unfolding step effect_of change_effect plan_effect work_effect limits_of right_word two later
     plan_manual given_sets given_set space_of given_record record_in_register record_set is_code
     parse_num digits_from decimals_from last_digits_from units_of
 number_reused differs = step-same_number two later _ 2 (refuses NumberReused)
@@ -118,7 +118,7 @@ number_reused differs = step-same_number two later _ 2 (refuses NumberReused)
 -- a number below the last one is stale, whatever its request
 stale : replies two (nails_under 1 ∷ manual_at 1 None None fifteenth [] ∷ [])
     ≡ Refused (Stale 2) ∷ Refused (Stale 2) ∷ []
-unfolding step effect_of change_effect plan_effect limits_of right_word two
+unfolding step effect_of change_effect plan_effect work_effect limits_of right_word two
     plan_manual given_sets given_set space_of given_record record_in_register record_set is_code
     parse_num digits_from decimals_from last_digits_from units_of
 stale = refl
@@ -161,7 +161,7 @@ of_another = refl
 -- a request that was accepted is its clerk's last, and one that was refused is not
 kept : map (λ l. l.number) (after empty
     (nails_under 4 ∷ manual_at 5 (Some 9) None morning [] ∷ [])).serial.lasts ≡ 4 ∷ []
-unfolding step effect_of change_effect plan_effect limits_of right_word
+unfolding step effect_of change_effect plan_effect work_effect limits_of right_word
     plan_manual given_sets given_set space_of given_record record_in_register record_set is_code
     parse_num digits_from decimals_from last_digits_from units_of
 kept = refl
@@ -175,7 +175,7 @@ after_nails = after empty (nails_under 1 ∷ [])
 -- what a step commits is the request under its number
 commits : (step after_nails (nails_under 2)).commits
     ≡ (record { number = 2; request = nails_under 2 } ∷ []) ∷ []
-unfolding step effect_of change_effect plan_effect limits_of right_word after_nails
+unfolding step effect_of change_effect plan_effect work_effect limits_of right_word after_nails
     plan_manual given_sets given_set space_of given_record record_in_register record_set is_code
     parse_num digits_from decimals_from last_digits_from units_of
 commits = refl
@@ -189,7 +189,7 @@ numbers (Err fault) = []
 second_first : numbers (serial shop first_state
     (record { number = 2; request = nails_under 1 }) >>= λ e. serial shop e.state
     (record { number = 1; request = nails_under 1 })) ≡ 2 ∷ 1 ∷ 2 ∷ []
-unfolding step effect_of change_effect plan_effect limits_of right_word numbers serial
+unfolding step effect_of change_effect plan_effect work_effect limits_of right_word numbers serial
     plan_manual given_sets given_set space_of given_record record_in_register record_set is_code
     parse_num digits_from decimals_from last_digits_from units_of
 second_first = refl
@@ -197,7 +197,7 @@ second_first = refl
 -- it takes no number twice, and none but 0 for a request that draws none
 taken : serial shop after_nails.serial (record { number = 1; request = nails_under 1 })
     ≡ Err bad_number
-unfolding step effect_of change_effect plan_effect limits_of right_word serial after_nails
+unfolding step effect_of change_effect plan_effect work_effect limits_of right_word serial after_nails
     plan_manual given_sets given_set space_of given_record record_in_register record_set is_code
     parse_num digits_from decimals_from last_digits_from units_of
 taken = refl
@@ -214,7 +214,7 @@ drawn_for_a_question = refl
 
 drawn_for_another : serial shop after_nails.serial
     (record { number = 2; request = manual_at 2 (Some 1) None morning [] }) ≡ Err bad_number
-unfolding step effect_of change_effect plan_effect limits_of right_word serial after_nails
+unfolding step effect_of change_effect plan_effect work_effect limits_of right_word serial after_nails
     plan_manual given_sets given_set space_of given_record record_in_register record_set is_code
     parse_num digits_from decimals_from last_digits_from units_of
 drawn_for_another = refl
@@ -223,7 +223,7 @@ drawn_for_another = refl
 no_limit : numbers (serial shop first_state
     (record { number = 4_294_967_296; request = nails_under 1 }))
     ≡ 4_294_967_296 ∷ 4_294_967_296 ∷ []
-unfolding step effect_of change_effect plan_effect limits_of right_word numbers serial
+unfolding step effect_of change_effect plan_effect work_effect limits_of right_word numbers serial
     plan_manual given_sets given_set space_of given_record record_in_register record_set is_code
     parse_num digits_from decimals_from last_digits_from units_of
 no_limit = refl

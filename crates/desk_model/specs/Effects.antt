@@ -12,7 +12,8 @@ use Rattle.desk_model.specs.State.{State}
 use Rattle.desk_model.specs.Stops.{Stop}
 use Rattle.reg_base.specs.Documents.{with_document, without_document}
 use Rattle.desk_model.specs.declared.plan.Source.{Source}
-use Rattle.desk_model.specs.declared.plan.Source.TheVariants.{ByHand, Kept, Nothing, Removed}
+use Rattle.desk_model.specs.declared.plan.Source.TheVariants.{ByHand, ByRules, Kept, Nothing}
+use Rattle.desk_model.specs.declared.plan.Source.TheVariants.{Removed}
 use Rattle.desk_model.specs.Plans.{Sight}
 use Rattle.desk_model.specs.declared.plan.Plan.{Plan}
 
@@ -59,6 +60,7 @@ state_with state number work = record state {
 -- how a changed document stands, or that it is removed, as its change is acknowledged
 abbrev pub acknowledgement_of : Doc → Source → Acknowledgement
 acknowledgement_of doc (ByHand given) = DocumentStands doc.active doc.number doc.state
+acknowledgement_of doc ByRules = DocumentStands doc.active doc.number doc.state
 acknowledgement_of doc Kept = DocumentStands doc.active doc.number doc.state
 acknowledgement_of doc Nothing = DocumentStands doc.active doc.number doc.state
 acknowledgement_of doc Removed = Swept doc.number

@@ -1,5 +1,6 @@
 pub mod Answers
 pub mod Clerks
+pub mod Controls
 pub mod Desk
 pub mod DocumentSets
 pub mod Effects
@@ -12,6 +13,7 @@ pub mod Limits
 pub mod Manuals
 pub mod Meanings
 pub mod Plans
+pub mod Posts
 pub mod Questions
 pub mod RecordSets
 pub mod Serial

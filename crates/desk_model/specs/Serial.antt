@@ -1,7 +1,8 @@
 -- What a command does to the serial state, and the serial machine.
-use Rattle.std.specs.Prelude.{ℕ, ◌==◌, Bool, true, false, ◌&&◌, nat_lt, is_none}
+use Rattle.std.specs.Prelude.{ℕ, ◌==◌, Bool, true, false, ◌&&◌, nat_lt, is_none, Option}
 use Rattle.std.specs.Prelude.{option_and_then, List, [], Result, Ok, Err}
-use Rattle.reg_base.specs.Results.{◌>>=◌, unless, some_or}
+use Rattle.reg_base.specs.Results.{◌>>=◌, unless, some_or, none_or}
+use Rattle.reg_base.specs.declared.records.Document.{Document}
 use Rattle.reg_base.specs.Records.{records_of, chosen_records}
 use Rattle.desk_words.specs.declared.request.Request.{Request}
 use Rattle.desk_words.specs.declared.reply.Answer.{Answer}
@@ -12,12 +13,13 @@ use Rattle.desk_model.specs.State.{Setting, State, Command}
 use Rattle.reg_base.specs.Documents.{document_at, holder_of}
 use Rattle.desk_model.specs.Effects.{Effect, Tests, no_tests}
 use Rattle.desk_model.specs.Stops.{Stop, refuses, or_stop}
-use Rattle.desk_model.specs.Effects.{effect_with, close_effect}
+use Rattle.desk_model.specs.Effects.{documents_with, effect_with, close_effect}
 use Rattle.desk_model.specs.declared.plan.Plan.{Plan}
 use Rattle.desk_model.specs.Plans.{Sight, Change, Question, DocumentQuestion, Deed, Meaning}
 use Rattle.desk_model.specs.Plans.{changes, closes, asks_register, asks_document}
 use Rattle.desk_model.specs.Clerks.{is_clerk, is_allowed}
 use Rattle.desk_model.specs.LastRequests.{lasts_with}
+use Rattle.desk_model.specs.Controls.{control_fault}
 use Rattle.desk_model.specs.DocumentSets.{document_from}
 use Rattle.desk_model.specs.Meanings.{meaning_of}
 
@@ -32,16 +34,28 @@ sight_of state number change = record {
   drawn = number;
 }
 
--- the effect of a plan, or its first refusal: the machine's limits are asked, and then whether its
--- records can be made
+-- the document that a plan makes of a state, or why its records can't be made
+abbrev pub made_at : Setting → State → Sight → Plan → Result (Option Document) Refusal
+made_at setting state sight plan =
+    document_from setting state.documents sight.before plan.doc plan.source
+
+-- the effect of a plan whose document was made: what it controls holds behind it
+unfoldable pub work_effect : Setting → State → ℕ → Sight → Plan → Option Document →
+    Result Effect Refusal
+work_effect setting state number sight plan after = do
+  _ ← none_or (control_fault setting plan (documents_with sight.before after state.documents)
+      sight.before after)
+  Ok (effect_with state number plan (record {
+    before = sight.before;
+    after = after;
+  }))
+
+-- the effect of a plan, or its first refusal: the machine's limits are asked, then whether its
+-- records can be made, and then its controls
 unfoldable pub plan_effect : Tests → Setting → State → ℕ → Sight → Plan → Result Effect Refusal
 plan_effect tests setting state number sight plan =
-    let made = document_from setting.config sight.before plan.doc plan.source in
-    tests.limits sight plan made >>= λ _. made >>= λ after. Ok
-    (effect_with state number plan (record {
-      before = sight.before;
-      after = after;
-    }))
+    let made = made_at setting state sight plan in
+    tests.limits sight plan made >>= λ _. made >>= work_effect setting state number sight plan
 
 -- the effect of a change, or its first refusal
 unfoldable pub change_effect : Tests → Setting → State → ℕ → Change → Result Effect Refusal

@@ -2,12 +2,14 @@
 use Rattle.std.specs.Prelude.{ℕ, List, []}
 use Rattle.reg_base.specs.declared.records.Document.{Document}
 use Rattle.cfg_model.specs.declared.config.Config.{Config}
+use Rattle.rule_lang.specs.declared.rules.Rules.{Rules}
 use Rattle.desk_words.specs.declared.request.Request.{Request}
 use Rattle.desk_model.specs.declared.last.Last.{Last}
 
 -- what a desk is set up with
 pub record Setting : Type 0 where
   pub config : Config
+  pub rules : Rules
 
 -- the serial state: the documents in order of number, the greatest number that was ever committed,
 -- the date before which nothing changes any more, and the last request of each clerk

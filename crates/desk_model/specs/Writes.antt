@@ -14,6 +14,7 @@ use Rattle.desk_words.specs.declared.reply.Refusal.{Refusal}
 use Rattle.desk_words.specs.declared.reply.Refusal.TheVariants.{BadField}
 use Rattle.desk_words.specs.declared.reply.Field.TheVariants.{Kind as KindField}
 use Rattle.desk_model.specs.declared.plan.Plan.{Plan}
+use Rattle.desk_model.specs.declared.plan.Source.{Source}
 use Rattle.desk_model.specs.declared.plan.Source.TheVariants.{Nothing}
 use Rattle.desk_model.specs.Fields.{cells_of}
 use Rattle.desk_model.specs.Plans.{Sight}
@@ -66,9 +67,9 @@ content_of config w before = do
     lines = lines;
   })
 
--- the document that `write` makes or whose place its own takes: written and active
-abbrev pub written_doc : WriteRequest → Sight → Content → Doc
-written_doc w sight content = record {
+-- the document that a request makes, or whose place its own takes: active, in this state
+abbrev pub content_doc : DocState → WriteRequest → Sight → Content → Doc
+content_doc state w sight content = record {
   number = number_with sight;
   kind = Some content.place;
   date = w.date;
@@ -76,19 +77,26 @@ written_doc w sight content = record {
   lines = content.lines;
   comment = unwrap_or w.comment [];
   key = key_with w.key sight.before;
-  state = Written;
+  state = state;
   active = true;
 }
 
--- what `write` makes, without records, or the first of its refusals
-unfoldable pub plan_write : Config → WriteRequest → Sight → Result Plan Refusal
-plan_write config w sight = do
-  _ ← named_is_seen w.doc sight.before
-  _ ← takes is_written_kind sight.before
+-- what a request makes of its content, in this state and with records from there, or the first of
+-- its refusals
+unfoldable pub plan_content : DocState → Source → Config → WriteRequest → Sight →
+    Result Plan Refusal
+plan_content state source config w sight = do
   content ← content_of config w sight.before
   _ ← key_is_free sight.holder
   _ ← dates_are_open sight.closed sight.before w.date
   Ok (record {
-    doc = written_doc w sight content;
-    source = Nothing;
+    doc = content_doc state w sight content;
+    source = source;
   })
+
+-- what `write` makes: a written document without records
+unfoldable pub plan_write : Config → WriteRequest → Sight → Result Plan Refusal
+plan_write config w sight = do
+  _ ← named_is_seen w.doc sight.before
+  _ ← takes is_written_kind sight.before
+  plan_content Written Nothing config w sight

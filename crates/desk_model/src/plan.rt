@@ -38,6 +38,8 @@ pub enum GivenSet {
 pub enum Source {
     /// They are given by hand, set by set.
     ByHand(List<GivenSet>),
+    /// The rules of the document's type make them.
+    ByRules,
     /// The document keeps those that it had.
     Kept,
     /// The document has none.

@@ -4,7 +4,8 @@ use Rattle.std.specs.Option.{option_copied}
 use Rattle.reg_base.specs.declared.records.Document.{Document}
 use Rattle.desk_model.specs.declared.plan.Plan.{Plan}
 use Rattle.desk_model.specs.declared.plan.Source.{Source}
-use Rattle.desk_model.specs.declared.plan.Source.TheVariants.{ByHand, Kept, Nothing, Removed}
+use Rattle.desk_model.specs.declared.plan.Source.TheVariants.{ByHand, ByRules, Kept, Nothing}
+use Rattle.desk_model.specs.declared.plan.Source.TheVariants.{Removed}
 use Rattle.desk_model.specs.Plans.{Sight}
 use Rattle.desk_model.specs.States.{number_with}
 use Rattle.desk_plans.specs.declared.sight.Sight.{Sight as SightOf}
@@ -21,6 +22,7 @@ sight_view sight = record {
 -- only a document that is there is removed
 abbrev pub RemovesOne : Option Document → Source → Type 0
 RemovesOne before (ByHand given) = ⊤
+RemovesOne before ByRules = ⊤
 RemovesOne before Kept = ⊤
 RemovesOne before Nothing = ⊤
 RemovesOne before Removed = IsSome before

@@ -3,7 +3,6 @@ ghost use Rattle.std.specs.Prelude.{◌≡◌, ◌≤◌, length, IfOk};
 ghost use Rattle.desk_model.specs.States.{plan_mark as plan_of_mark};
 ghost use Rattle.desk_model.specs.States.{plan_activity as plan_of_activity};
 ghost use Rattle.desk_model.specs.States.{plan_sweep as plan_of_sweep};
-ghost use Rattle.desk_model.specs.States.{is_marked as is_marked_state};
 ghost use Rattle.desk_model.specs.States.{takes_switch as takes_switch_of};
 ghost use Rattle.desk_model.specs.States.{switched_state as switched_state_of};
 ghost use Rattle.desk_model.specs.Writes.{plan_write as plan_of_write};
@@ -13,11 +12,11 @@ ghost use Rattle.desk_plans.specs.Tries.{Tries};
 use crate::copies::copy_doc;
 use crate::sight::Sight;
 use crate::states::{
-    date_is_open, dates_are_open, is_posted_manual, is_taken, key_is_free, named_is_seen,
-    seen_document, takes_written,
+    date_is_open, is_marked, is_posted_manual, is_taken, named_is_seen, seen_document,
+    takes_written,
 };
 use crate::tried::Tried;
-use crate::writes::{content_of, written_doc};
+use crate::writes::plan_content;
 use cfg_model::Config;
 use desk_model::{Plan, Source};
 use desk_words::{Switch, Write};
@@ -33,14 +32,14 @@ pub fn plan_write(alloc: Global, config: &Config, write: &Write, sight: &Sight<'
 {
     named_is_seen(write.doc, sight)?;
     takes_written(sight)?;
-    let content = content_of(alloc, config, write, sight)?;
-    key_is_free(sight)?;
-    dates_are_open(sight, write.date)?;
-    let doc = written_doc(alloc, write, sight, content)?;
-    Ok(Plan {
-        doc,
-        source: Source::Nothing,
-    })
+    plan_content(
+        alloc,
+        config,
+        write,
+        sight,
+        DocState::Written,
+        Source::Nothing,
+    )
 }
 
 /// What `mark` makes: a marked document has no records, and one whose mark is taken off had none.
@@ -69,12 +68,6 @@ fn takes_switch(on: bool, doc: &Doc) -> bool
     } else {
         is_marked(doc.state) && doc.kind.is_some()
     }
-}
-
-fn is_marked(state: DocState) -> bool
-    ensures { result ≡ is_marked_state state }
-{
-    state == DocState::Marked
 }
 
 // The state of a document whose mark is put on or taken off.

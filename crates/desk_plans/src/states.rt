@@ -9,7 +9,10 @@ ghost use Rattle.desk_model.specs.States.{key_is_free as key_is_free_of};
 ghost use Rattle.desk_model.specs.States.{dates_are_open as are_open};
 ghost use Rattle.desk_model.specs.States.{number_with as number_in, key_with as key_in};
 ghost use Rattle.desk_model.specs.States.{is_posted_manual as is_posted_manual_doc};
+ghost use Rattle.desk_model.specs.States.{is_marked as is_marked_state};
 ghost use Rattle.desk_model.specs.Writes.{is_written_kind as is_written_kind_doc};
+ghost use Rattle.desk_model.specs.Posts.{is_unmarked_kind as is_unmarked_kind_doc};
+ghost use Rattle.desk_model.specs.Posts.{is_posted_kind as is_posted_kind_doc};
 ghost use Rattle.desk_plans.specs.Sights.{sight_view};
 ghost use Rattle.desk_plans.specs.Tries.{Tries, TriesAs};
 
@@ -48,6 +51,16 @@ pub(crate) fn takes_written(sight: &Sight<'_>) -> Tried<()>
     }
 }
 
+// A document that was there is a written or posted one of a type.
+pub(crate) fn takes_unmarked(sight: &Sight<'_>) -> Tried<()>
+    ensures { Tries result (takes is_unmarked_kind_doc (sight_view sight.now).before) }
+{
+    match sight.before {
+        Some(document) => is_taken(is_unmarked_kind(&document.doc), &document.doc),
+        None => Ok(()),
+    }
+}
+
 // A document that was there is a posted one of records that were given by hand.
 pub(crate) fn takes_posted_manual(sight: &Sight<'_>) -> Tried<()>
     ensures { Tries result (takes is_posted_manual_doc (sight_view sight.now).before) }
@@ -73,6 +86,27 @@ fn is_written_kind(doc: &Doc) -> bool
     ensures { result ≡ is_written_kind_doc doc.now }
 {
     doc.state == DocState::Written && doc.kind.is_some()
+}
+
+// Whether a document is a written or posted one of a type.
+pub(crate) fn is_unmarked_kind(doc: &Doc) -> bool
+    ensures { result ≡ is_unmarked_kind_doc doc.now }
+{
+    !is_marked(doc.state) && doc.kind.is_some()
+}
+
+// Whether a document is a posted one of a type.
+pub(crate) fn is_posted_kind(doc: &Doc) -> bool
+    ensures { result ≡ is_posted_kind_doc doc.now }
+{
+    doc.state == DocState::Posted && doc.kind.is_some()
+}
+
+// Whether a document is marked for deletion.
+pub(crate) fn is_marked(state: DocState) -> bool
+    ensures { result ≡ is_marked_state state }
+{
+    state == DocState::Marked
 }
 
 // Whether a document is a posted one of records that were given by hand.

@@ -3,20 +3,22 @@ ghost use Rattle.std.specs.Prelude.{◌≡◌, ◌≤◌, length, IfOk};
 ghost use Rattle.reg_base.specs.Results.{each};
 ghost use Rattle.desk_model.specs.Fields.{cells_of as cells_of_texts};
 ghost use Rattle.desk_model.specs.Writes.{content_of as content_in};
-ghost use Rattle.desk_model.specs.Writes.{written_doc as written_doc_of};
+ghost use Rattle.desk_model.specs.Writes.{content_doc as content_doc_of};
+ghost use Rattle.desk_model.specs.Writes.{plan_content as plan_of_content};
 ghost use Rattle.desk_model.specs.Writes.{kind_of_request as place_of_kind};
 ghost use Rattle.desk_model.specs.Writes.{keeps_kind as keeps_kind_of, is_kind as is_kind_of};
 ghost use Rattle.desk_plans.specs.Contents.{content_view};
-ghost use Rattle.desk_plans.specs.Sights.{sight_view};
+ghost use Rattle.desk_plans.specs.Sights.{sight_view, RemovesOne, Suits};
 ghost use Rattle.desk_plans.specs.Tries.{Tries, TriesAs};
 
 use crate::copies::comment_or_empty;
 use crate::fields::cells_of;
 use crate::given::wrong;
 use crate::sight::Sight;
-use crate::states::{key_with, number_with};
+use crate::states::{dates_are_open, key_is_free, key_with, number_with};
 use crate::tried::Tried;
 use cfg_model::{Config, Field};
+use desk_model::{Plan, Source};
 use desk_words::{Field as WrongField, FieldText, Write};
 use reg_base::{Cell, Doc, DocState, List, Memory, Name};
 use std::alloc::Global;
@@ -100,15 +102,40 @@ fn read_lines(alloc: Global, fields: &[Field], texts: &[List<FieldText>]) -> Tri
     Ok(List::from_vec(lines))
 }
 
-// The document that `write` makes or whose place its own takes: written and active.
-pub(crate) fn written_doc(
+// What a request makes of its content, in this state and with records from there, or the first of
+// its refusals.
+#[tactic(auto, unfolding(desk_model::specs::Writes::plan_content))]
+pub(crate) fn plan_content(
     alloc: Global,
+    config: &Config,
+    write: &Write,
+    sight: &Sight<'_>,
+    state: DocState,
+    source: Source,
+) -> Tried<Plan>
+    requires kinds { length config.now.kinds ≤ 64 }
+    requires stays { RemovesOne (sight_view sight.now).before source }
+    ensures value { Tries result
+        (plan_of_content state source config.now write.now (sight_view sight.now)) }
+    ensures suits { IfOk result (Suits (sight_view sight.now)) }
+{
+    let content = content_of(alloc, config, write, sight)?;
+    key_is_free(sight)?;
+    dates_are_open(sight, write.date)?;
+    let doc = content_doc(alloc, state, write, sight, content)?;
+    Ok(Plan { doc, source })
+}
+
+// The document that a request makes, or whose place its own takes: active, in this state.
+fn content_doc(
+    alloc: Global,
+    state: DocState,
     write: &Write,
     sight: &Sight<'_>,
     content: Content,
 ) -> Result<Doc, Memory>
     ensures { IfOk result (λ doc. doc
-        ≡ written_doc_of write.now (sight_view sight.now) (content_view content)) }
+        ≡ content_doc_of state write.now (sight_view sight.now) (content_view content)) }
 {
     let comment = comment_or_empty(alloc, &write.comment)?;
     let Content { place, head, lines } = content;
@@ -120,7 +147,7 @@ pub(crate) fn written_doc(
         lines,
         comment,
         key: key_with(&write.key, sight),
-        state: DocState::Written,
+        state,
         active: true,
     })
 }
