@@ -21,7 +21,6 @@ use Rattle.rule_lang.specs.declared.statement.Act.TheVariants.{Make, WriteOff, R
 use Rattle.rule_lang.specs.declared.statement.Act.TheVariants.{Entry}
 use Rattle.rule_lang.specs.declared.statement.Bind.{Bind}
 use Rattle.rule_lang.specs.declared.statement.Statement.{Statement}
-use Rattle.rule_lang.specs.declared.statement.Sum.{Sum}
 use Rattle.post_model.specs.Scenes.{Scene, sum_value, when_holds}
 use Rattle.post_model.specs.Lefts.{dimensions_of, resource_count, read_of, found_by}
 use Rattle.post_model.specs.declared.holding.Holding.{Holding}
