@@ -1,6 +1,6 @@
 -- Which members an operation has, and what they are called.
-use Rattle.std.specs.Prelude.{ℕ, Bool, false, ◌||◌, List, [], ◌∷◌, Option, Some, None, is_some}
-use Rattle.std.specs.Prelude.{if◌then◌else◌, codes}
+use Rattle.std.specs.Prelude.{ℕ, Bool, true, false, ◌||◌, List, [], ◌∷◌, Option, Some, None}
+use Rattle.std.specs.Prelude.{is_some, if◌then◌else◌, codes}
 use Rattle.std.specs.Str.{bytes_eq}
 use Rattle.serde_json.specs.Data.{Members, no_members, member}
 use Rattle.serde_json.specs.Find.{get_member}
@@ -10,7 +10,8 @@ use Rattle.desk_words.specs.declared.fault.Member.TheVariants.{Head, Lines, On, 
 use Rattle.desk_words.specs.declared.fault.Member.TheVariants.{Register, Cut}
 use Rattle.desk_words.specs.declared.members.Operation.{Operation}
 use Rattle.desk_words.specs.declared.members.Operation.TheVariants.{Write, Mark, Manual, Activity}
-use Rattle.desk_words.specs.declared.members.Operation.TheVariants.{Close, Sweep, Balance}
+use Rattle.desk_words.specs.declared.members.Operation.TheVariants.{Close, Sweep, Balance, Post}
+use Rattle.desk_words.specs.declared.members.Operation.TheVariants.{PostStanding, Unpost}
 use Rattle.desk_words.specs.declared.members.Operation.TheVariants.{Doc as Doc_op}
 
 -- the word of a member
@@ -30,9 +31,14 @@ member_name Comment = codes "comment"
 member_name Register = codes "register"
 member_name Cut = codes "cut"
 
--- the operation of that name
-abbrev pub operation_named : List ℕ → Option Operation
-operation_named name =
+-- posting with content, which has a type, or of a document as it stands
+abbrev pub posting : Bool → Operation
+posting true = Post
+posting false = PostStanding
+
+-- the operation of that name, by whether a type is given with it
+abbrev pub operation_named : Bool → List ℕ → Option Operation
+operation_named has_kind name =
     if bytes_eq name (codes "write") then Some Write
     else (if bytes_eq name (codes "mark") then Some Mark
     else (if bytes_eq name (codes "manual") then Some Manual
@@ -41,7 +47,9 @@ operation_named name =
     else (if bytes_eq name (codes "sweep") then Some Sweep
     else (if bytes_eq name (codes "balance") then Some Balance
     else (if bytes_eq name (codes "doc") then Some Doc_op
-    else None)))))))
+    else (if bytes_eq name (codes "post") then Some (posting has_kind)
+    else (if bytes_eq name (codes "unpost") then Some Unpost
+    else None)))))))))
 
 -- the members that an operation asks for, in order
 abbrev pub required_members : Operation → List Member
@@ -53,23 +61,44 @@ required_members Close = Op ∷ Clerk ∷ No ∷ Date ∷ []
 required_members Sweep = Op ∷ Clerk ∷ No ∷ Doc ∷ []
 required_members Balance = Op ∷ Clerk ∷ Register ∷ []
 required_members Doc_op = Op ∷ Clerk ∷ Doc ∷ []
+required_members Post = Op ∷ Clerk ∷ No ∷ Kind ∷ Date ∷ Head ∷ Lines ∷ []
+required_members PostStanding = Op ∷ Clerk ∷ No ∷ Doc ∷ []
+required_members Unpost = Op ∷ Clerk ∷ No ∷ Doc ∷ []
 
--- the members that an operation may have besides
-abbrev pub optional_members : Operation → List Member
-optional_members Write = Doc ∷ Key ∷ Comment ∷ []
-optional_members Mark = []
-optional_members Manual = Doc ∷ Key ∷ Comment ∷ []
-optional_members Activity = []
-optional_members Close = []
-optional_members Sweep = []
-optional_members Balance = Cut ∷ []
-optional_members Doc_op = []
+-- the members of a document's content, without its type
+abbrev pub content_members : List Member
+content_members = Key ∷ Date ∷ Head ∷ Lines ∷ Comment ∷ []
+
+-- The members that an operation knows besides. Posting of a document as it stands knows those of
+-- content, so that they are refused as its own.
+abbrev pub other_members : Operation → List Member
+other_members Write = Doc ∷ Key ∷ Comment ∷ []
+other_members Mark = []
+other_members Manual = Doc ∷ Key ∷ Comment ∷ []
+other_members Activity = []
+other_members Close = []
+other_members Sweep = []
+other_members Balance = Cut ∷ []
+other_members Doc_op = []
+other_members Post = Doc ∷ Key ∷ Comment ∷ []
+other_members PostStanding = content_members
+other_members Unpost = []
+
+-- an object has the member, whatever stands there
+abbrev pub has_member : Member → Members → Bool
+has_member m object = is_some (get_member (member_name m) object)
 
 -- the first of the members that an object lacks
 abbrev pub first_missing : List Member → Members → Option Member
 first_missing [] object = None
 first_missing (m ∷ ms) object =
-    if is_some (get_member (member_name m) object) then first_missing ms object else Some m
+    if has_member m object then first_missing ms object else Some m
+
+-- the first of the members that an object has
+abbrev pub first_present : List Member → Members → Option Member
+first_present [] object = None
+first_present (m ∷ ms) object =
+    if has_member m object then Some m else first_present ms object
 
 -- one of the members has this name
 abbrev pub is_name_of : List Member → List ℕ → Bool
@@ -85,5 +114,5 @@ member_names (member name value more) = name ∷ member_names more
 abbrev pub first_unknown_member : Operation → Members → Option (List ℕ)
 first_unknown_member op no_members = None
 first_unknown_member op (member name value more) =
-    if is_name_of (required_members op) name || is_name_of (optional_members op) name
+    if is_name_of (required_members op) name || is_name_of (other_members op) name
     then first_unknown_member op more else Some name

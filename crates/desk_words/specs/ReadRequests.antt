@@ -1,19 +1,21 @@
 -- Each request from its members, which are read in their order: so the first that is not of its
 -- shape is told.
-use Rattle.std.specs.Prelude.{ℕ, ◌||◌, List, Option, None, is_none, Ok}
+use Rattle.std.specs.Prelude.{ℕ, ◌||◌, List, Option, None, is_none, option_map, Ok}
 use Rattle.serde_json.specs.Data.{Members}
-use Rattle.reg_base.specs.Results.{◌>>=◌, unless}
+use Rattle.reg_base.specs.Results.{◌>>=◌, unless, none_or}
 use Rattle.desk_words.specs.declared.fault.Member.TheVariants.{Clerk, No, Doc, Key, Kind, Date}
 use Rattle.desk_words.specs.declared.fault.Member.TheVariants.{Head, Lines, On, Sets, Comment}
 use Rattle.desk_words.specs.declared.fault.Member.TheVariants.{Register, Cut}
 use Rattle.desk_words.specs.declared.fault.WordFault.TheVariants.{BadMember}
 use Rattle.desk_words.specs.declared.request.Write.{Write}
+use Rattle.desk_words.specs.declared.request.StandingDocument.{StandingDocument}
 use Rattle.desk_words.specs.declared.request.Switch.{Switch}
 use Rattle.desk_words.specs.declared.request.Manual.{Manual}
 use Rattle.desk_words.specs.declared.request.Close.{Close}
 use Rattle.desk_words.specs.declared.request.Sweep.{Sweep}
 use Rattle.desk_words.specs.declared.request.Balance.{Balance}
 use Rattle.desk_words.specs.declared.request.DocQuestion.{DocQuestion}
+use Rattle.desk_words.specs.Members.{content_members, first_present}
 use Rattle.desk_words.specs.Shapes.{OrFault, required_at, optional_at, json_name, json_code}
 use Rattle.desk_words.specs.Shapes.{json_number, json_date, json_cut, json_boolean, json_comment}
 use Rattle.desk_words.specs.Sets.{json_sets}
@@ -27,7 +29,7 @@ key_beside doc object = do
   _ ← unless (is_none doc || is_none key) (BadMember Key)
   Ok key
 
--- new content of a document
+-- the content of a document
 unfoldable pub write_request : Members → OrFault Write
 write_request object = do
   clerk ← required_at json_name Clerk object
@@ -51,6 +53,21 @@ write_request object = do
     comment = comment;
     tx = None;
   })
+
+-- a document as it stands
+unfoldable pub standing_document : Members → OrFault StandingDocument
+standing_document object = do
+  clerk ← required_at json_name Clerk object
+  nr ← required_at json_number No object
+  doc ← required_at json_number Doc object
+  Ok (record { clerk = clerk; no = nr; doc = doc; tx = None })
+
+-- a document to be posted as it stands: no member of content may be there, whatever its shape
+unfoldable pub standing_post : Members → OrFault StandingDocument
+standing_post object = do
+  standing ← standing_document object
+  _ ← none_or (option_map BadMember (first_present content_members object))
+  Ok standing
 
 -- a switch of a document
 unfoldable pub switch_request : Members → OrFault Switch

@@ -1,6 +1,6 @@
 -- Which request a line is, or its first fault.
-use Rattle.std.specs.Prelude.{ℕ, List, Option, Some, None, option_map, option_and_then, Ok, Err}
-use Rattle.std.specs.Prelude.{◌==◌, length, if◌then◌else◌, ⊤}
+use Rattle.std.specs.Prelude.{ℕ, Bool, List, Option, Some, None, option_map, option_and_then}
+use Rattle.std.specs.Prelude.{Ok, Err, ◌==◌, length, if◌then◌else◌, ⊤}
 use Rattle.std.specs.Str.Lossy.{utf8_valid_len}
 use Rattle.serde_json.specs.Data.{Data, Members}
 use Rattle.serde_json.specs.Read.{read}
@@ -8,7 +8,7 @@ use Rattle.serde_json.specs.Find.{get_member, as_object, as_str}
 use Rattle.reg_base.specs.declared.line.Line.{Line}
 use Rattle.reg_base.specs.declared.line.Line.TheVariants.{Text, TooLong as TooLong_line}
 use Rattle.reg_base.specs.Results.{◌>>=◌, some_or, none_or}
-use Rattle.desk_words.specs.declared.fault.Member.TheVariants.{Op}
+use Rattle.desk_words.specs.declared.fault.Member.TheVariants.{Op, Kind}
 use Rattle.desk_words.specs.declared.fault.WordFault.TheVariants.{TooLong, NotJson, NotObject}
 use Rattle.desk_words.specs.declared.fault.WordFault.TheVariants.{UnknownOp, Missing, UnknownMember}
 use Rattle.desk_words.specs.declared.members.Operation.{Operation}
@@ -20,27 +20,32 @@ use Rattle.desk_words.specs.declared.members.Operation.TheVariants.{Close as Clo
 use Rattle.desk_words.specs.declared.members.Operation.TheVariants.{Sweep as Sweep_op}
 use Rattle.desk_words.specs.declared.members.Operation.TheVariants.{Balance as Balance_op}
 use Rattle.desk_words.specs.declared.members.Operation.TheVariants.{Doc as Doc_op}
+use Rattle.desk_words.specs.declared.members.Operation.TheVariants.{Post as Post_op, PostStanding}
+use Rattle.desk_words.specs.declared.members.Operation.TheVariants.{Unpost as Unpost_op}
 use Rattle.desk_words.specs.declared.request.Request.{Request}
 use Rattle.desk_words.specs.declared.request.Request.TheVariants.{Write, Mark, Manual, Activity}
-use Rattle.desk_words.specs.declared.request.Request.TheVariants.{Close, Sweep, Balance, Doc}
+use Rattle.desk_words.specs.declared.request.Request.TheVariants.{Close, Sweep, Balance, Doc, Post}
+use Rattle.desk_words.specs.declared.request.Request.TheVariants.{Unpost}
+use Rattle.desk_words.specs.declared.request.Post.TheVariants.{Content, Standing}
 use Rattle.desk_words.specs.Members.{member_name, operation_named, required_members, first_missing}
-use Rattle.desk_words.specs.Members.{first_unknown_member}
+use Rattle.desk_words.specs.Members.{first_unknown_member, has_member}
 use Rattle.desk_words.specs.Shapes.{OrFault}
 use Rattle.desk_words.specs.ReadRequests.{write_request, switch_request, manual_request}
 use Rattle.desk_words.specs.ReadRequests.{close_request, sweep_request, balance_request}
-use Rattle.desk_words.specs.ReadRequests.{doc_question}
+use Rattle.desk_words.specs.ReadRequests.{doc_question, standing_document, standing_post}
 
 -- the JSON value of a line, where the line is UTF-8 and `serde_json` reads it
 unfoldable pub json_document : List ℕ → Option Data
 json_document bytes = if utf8_valid_len bytes == length bytes then read bytes else None
 
-abbrev operation_if : Option Data → OrFault Operation
-operation_if None = Err (Missing Op)
-operation_if (Some op) = some_or (option_and_then operation_named (as_str op)) UnknownOp
+abbrev operation_if : Bool → Option Data → OrFault Operation
+operation_if has_kind None = Err (Missing Op)
+operation_if has_kind (Some op) =
+    some_or (option_and_then (operation_named has_kind) (as_str op)) UnknownOp
 
 -- the operation that an object names
 unfoldable pub operation_of : Members → OrFault Operation
-operation_of object = operation_if (get_member (member_name Op) object)
+operation_of object = operation_if (has_member Kind object) (get_member (member_name Op) object)
 
 -- an object lacks none of the members that its operation asks for
 unfoldable pub check_present : Operation → Members → OrFault ⊤
@@ -60,6 +65,9 @@ members_of Close_op object = close_request object >>= λ r. Ok (Close r)
 members_of Sweep_op object = sweep_request object >>= λ r. Ok (Sweep r)
 members_of Balance_op object = balance_request object >>= λ r. Ok (Balance r)
 members_of Doc_op object = doc_question object >>= λ r. Ok (Doc r)
+members_of Post_op object = write_request object >>= λ r. Ok (Post (Content r))
+members_of PostStanding object = standing_post object >>= λ r. Ok (Post (Standing r))
+members_of Unpost_op object = standing_document object >>= λ r. Ok (Unpost r)
 
 -- The request that an object is: its operation is asked first, then what it lacks, then what it
 -- has too much, then each member.

@@ -1,5 +1,5 @@
 -- Why a request is refused, as JSON.
-use Rattle.std.specs.Prelude.{ℕ, ℤ, Option, None, Some, List, [], codes}
+use Rattle.std.specs.Prelude.{ℕ, ℤ, Option, None, Some, List, [], map, codes}
 use Rattle.serde_json.specs.Data.{Data, string, object, Members, no_members, member, put}
 use Rattle.reg_base.specs.Dates.{date_text}
 use Rattle.reg_base.specs.Numbers.{sum_text}
@@ -13,14 +13,15 @@ use Rattle.desk_words.specs.declared.reply.Refusal.TheVariants.{BadLine, Unknown
 use Rattle.desk_words.specs.declared.reply.Refusal.TheVariants.{Stale, NumberReused, UnknownDoc}
 use Rattle.desk_words.specs.declared.reply.Refusal.TheVariants.{WrongState, BadField, KeyTaken}
 use Rattle.desk_words.specs.declared.reply.Refusal.TheVariants.{Closed, Limit as LimitPassed, Rule}
+use Rattle.desk_words.specs.declared.reply.Refusal.TheVariants.{Control}
 use Rattle.reg_base.specs.declared.fault.PostFault.{PostFault}
 use Rattle.reg_base.specs.declared.fault.PostFault.TheVariants.{Broken, Shortage, Overflow, Entry}
 use Rattle.reg_base.specs.declared.fault.PostFault.TheVariants.{TooManyRecords, Negative}
 use Rattle.desk_words.specs.Members.{member_name}
-use Rattle.desk_words.specs.JsonValues.{whole}
+use Rattle.desk_words.specs.JsonValues.{whole, texts_data}
 use Rattle.desk_words.specs.ReplyWords.{state_name, field_name, limit_name, word_fault_number}
 use Rattle.desk_words.specs.ReplyWords.{post_fault_number, entry_fault_number, refusal_number}
-use Rattle.desk_words.specs.ReplyWords.{refusal_name}
+use Rattle.desk_words.specs.ReplyWords.{refusal_name, value_text}
 
 -- what the fault of a line tells besides its number
 abbrev pub word_fault_detail : WordFault → Members
@@ -81,6 +82,10 @@ refusal_detail (LimitPassed which limit) =
     member (codes "number") (whole limit)
     (member (codes "which") (string (limit_name which)) no_members)
 refusal_detail (Rule fault scale) = post_fault_members scale fault
+refusal_detail (Control register values balance scale) =
+    member (codes "balance") (string (sum_text balance scale))
+    (member (codes "register") (string register)
+    (member (codes "values") (texts_data (map value_text values)) no_members))
 
 -- why a request is refused: its number, its name, and what it tells besides
 unfoldable pub refusal_data : Refusal → Data

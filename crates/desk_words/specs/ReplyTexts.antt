@@ -6,11 +6,8 @@ use Rattle.serde_json.specs.View.{items_of}
 use Rattle.serde_json.specs.Written.{compact_text}
 use Rattle.reg_base.specs.Dates.{date_text}
 use Rattle.reg_base.specs.Numbers.{sum_text}
-use Rattle.reg_base.specs.Points.{point_text}
 use Rattle.reg_base.specs.declared.records.DocState.{DocState}
 use Rattle.reg_base.specs.declared.records.SumRow.{SumRow}
-use Rattle.reg_base.specs.declared.value.Value.{Value}
-use Rattle.reg_base.specs.declared.value.Value.TheVariants.{Code, Lot}
 use Rattle.desk_words.specs.declared.reply.Reply.{Reply}
 use Rattle.desk_words.specs.declared.reply.Reply.TheVariants.{Done, Refused}
 use Rattle.desk_words.specs.declared.reply.Answer.{Answer}
@@ -24,13 +21,14 @@ use Rattle.desk_words.specs.declared.reply.Refusal.TheVariants.{BadLine, Unknown
 use Rattle.desk_words.specs.declared.reply.Refusal.TheVariants.{Stale, NumberReused, UnknownDoc}
 use Rattle.desk_words.specs.declared.reply.Refusal.TheVariants.{WrongState, BadField, KeyTaken}
 use Rattle.desk_words.specs.declared.reply.Refusal.TheVariants.{Closed, Limit as LimitPassed, Rule}
+use Rattle.desk_words.specs.declared.reply.Refusal.TheVariants.{Control}
 use Rattle.reg_base.specs.declared.fault.PostFault.{PostFault}
 use Rattle.reg_base.specs.declared.fault.PostFault.TheVariants.{Broken, Shortage, Overflow, Entry}
 use Rattle.reg_base.specs.declared.fault.PostFault.TheVariants.{TooManyRecords, Negative}
 use Rattle.desk_words.specs.JsonValues.{whole, texts_data}
 use Rattle.desk_words.specs.FieldTexts.{fields_data, lines_data}
 use Rattle.desk_words.specs.RequestTexts.{sets_data}
-use Rattle.desk_words.specs.ReplyWords.{state_name}
+use Rattle.desk_words.specs.ReplyWords.{value_text, state_name}
 use Rattle.desk_words.specs.RefusalTexts.{refusal_data}
 
 -- a fault that tells a missing quantity has the scale of that quantity
@@ -56,6 +54,7 @@ RefusalHasScales (BadField field) = ⊤
 RefusalHasScales (KeyTaken doc) = ⊤
 RefusalHasScales (Closed date) = ⊤
 RefusalHasScales (LimitPassed which limit) = ⊤
+RefusalHasScales (Control register values balance scale) = ⊤
 
 -- each row has a scale for each of its sums
 abbrev pub AnswerHasScales : Answer → Type 0
@@ -67,11 +66,6 @@ AnswerHasScales (Shown shown) = ⊤
 abbrev pub HasScales : Reply → Type 0
 HasScales (Done answer) = AnswerHasScales answer
 HasScales (Refused refusal) = RefusalHasScales refusal
-
--- a value as text: a code as it is, a lot as its point
-abbrev pub value_text : Value → List ℕ
-value_text (Code code) = code
-value_text (Lot point) = point_text point
 
 -- the sums as texts, each with the decimals of the resource in its place; `HasScales` says that
 -- there are as many scales

@@ -1,7 +1,10 @@
--- The words and numbers of replies.
+-- The words, numbers and texts of values of replies.
 use Rattle.std.specs.Prelude.{ℕ, List, codes}
+use Rattle.reg_base.specs.Points.{point_text}
 use Rattle.reg_base.specs.declared.records.DocState.{DocState}
 use Rattle.reg_base.specs.declared.records.DocState.TheVariants.{Written, Posted, Marked}
+use Rattle.reg_base.specs.declared.value.Value.{Value}
+use Rattle.reg_base.specs.declared.value.Value.TheVariants.{Code, Lot}
 use Rattle.desk_words.specs.declared.fault.WordFault.{WordFault}
 use Rattle.desk_words.specs.declared.fault.WordFault.TheVariants.{TooLong, NotJson, NotObject}
 use Rattle.desk_words.specs.declared.fault.WordFault.TheVariants.{UnknownOp, Missing, UnknownMember}
@@ -11,6 +14,7 @@ use Rattle.desk_words.specs.declared.reply.Refusal.TheVariants.{BadLine, Unknown
 use Rattle.desk_words.specs.declared.reply.Refusal.TheVariants.{Stale, NumberReused, UnknownDoc}
 use Rattle.desk_words.specs.declared.reply.Refusal.TheVariants.{WrongState, BadField, KeyTaken}
 use Rattle.desk_words.specs.declared.reply.Refusal.TheVariants.{Closed, Limit as LimitPassed, Rule}
+use Rattle.desk_words.specs.declared.reply.Refusal.TheVariants.{Control}
 use Rattle.desk_words.specs.declared.reply.Field.{Field}
 use Rattle.desk_words.specs.declared.reply.Field.TheVariants.{Space, Register, Ledger, Values, Sums}
 use Rattle.desk_words.specs.declared.reply.Field.TheVariants.{Kind, Amount, Named}
@@ -22,6 +26,11 @@ use Rattle.reg_base.specs.declared.fault.PostFault.TheVariants.{TooManyRecords, 
 use Rattle.reg_base.specs.declared.fault.EntryFault.{EntryFault}
 use Rattle.reg_base.specs.declared.fault.EntryFault.TheVariants.{UnknownAccount, GroupAccount}
 use Rattle.reg_base.specs.declared.fault.EntryFault.TheVariants.{ExtraCount, Sides}
+
+-- a value as text: a code as it is, a lot as its point
+abbrev pub value_text : Value → List ℕ
+value_text (Code code) = code
+value_text (Lot point) = point_text point
 
 -- the word of a document's state
 abbrev pub state_name : DocState → List ℕ
@@ -88,6 +97,7 @@ refusal_number (KeyTaken doc) = 12
 refusal_number (Closed date) = 13
 refusal_number (LimitPassed which limit) = 14
 refusal_number (Rule fault scale) = 15
+refusal_number (Control register values balance scale) = 18
 
 -- the word of a refusal
 abbrev pub refusal_name : Refusal → List ℕ
@@ -103,3 +113,4 @@ refusal_name (KeyTaken doc) = codes "KeyTaken"
 refusal_name (Closed date) = codes "Closed"
 refusal_name (LimitPassed which limit) = codes "Limit"
 refusal_name (Rule fault scale) = codes "Rule"
+refusal_name (Control register values balance scale) = codes "Control"

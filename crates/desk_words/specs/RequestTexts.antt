@@ -18,7 +18,12 @@ use Rattle.desk_words.specs.declared.request.Request.TheVariants.{Close as Close
 use Rattle.desk_words.specs.declared.request.Request.TheVariants.{Sweep as Sweep_request}
 use Rattle.desk_words.specs.declared.request.Request.TheVariants.{Balance as Balance_request}
 use Rattle.desk_words.specs.declared.request.Request.TheVariants.{Doc as Doc_request}
+use Rattle.desk_words.specs.declared.request.Request.TheVariants.{Post as Post_request}
+use Rattle.desk_words.specs.declared.request.Request.TheVariants.{Unpost as Unpost_request}
+use Rattle.desk_words.specs.declared.request.Post.{Post}
+use Rattle.desk_words.specs.declared.request.Post.TheVariants.{Content, Standing}
 use Rattle.desk_words.specs.declared.request.Write.{Write}
+use Rattle.desk_words.specs.declared.request.StandingDocument.{StandingDocument}
 use Rattle.desk_words.specs.declared.request.Switch.{Switch}
 use Rattle.desk_words.specs.declared.request.Manual.{Manual}
 use Rattle.desk_words.specs.declared.request.Close.{Close}
@@ -84,24 +89,38 @@ put_filters ms (filter ∷ filters) = put_filters (put filter.name (texts_data f
 abbrev pub filters_data : List FilterText → Data
 filters_data filters = object (put_filters no_members filters)
 
--- the members that `write` always has
-unfoldable pub write_frame : Write → Members
-write_frame w =
+-- members, with those among them that a document may have
+unfoldable pub put_optional : Option ℕ → Option (List ℕ) → Option (List ℕ) → Option ℕ → Members
+    → Members
+put_optional doc key comment tx frame =
+    put_if (codes "tx") (option_map whole tx)
+    (put_if (codes "comment") (option_map string comment)
+    (put_if (codes "key") (option_map string key)
+    (put_if (codes "doc") (option_map whole doc) frame)))
+
+-- the members that content always has, with the word of its operation
+unfoldable pub write_frame : List ℕ → Write → Members
+write_frame op w =
     member (codes "clerk") (string w.clerk)
     (member (codes "date") (string (date_text w.date))
     (member (codes "head") (fields_data w.head)
     (member (codes "kind") (string w.kind)
     (member (codes "lines") (lines_data w.lines)
     (member (codes "no") (whole w.no)
-    (member (codes "op") (string (codes "write")) no_members))))))
+    (member (codes "op") (string op) no_members))))))
 
--- the members of `write`
-unfoldable pub write_members : Write → Members
-write_members w =
-    put_if (codes "tx") (option_map whole w.tx)
-    (put_if (codes "comment") (option_map string w.comment)
-    (put_if (codes "key") (option_map string w.key)
-    (put_if (codes "doc") (option_map whole w.doc) (write_frame w))))
+-- the members of `write` and of `post` with content, whose word is given
+unfoldable pub write_members : List ℕ → Write → Members
+write_members op w = put_optional w.doc w.key w.comment w.tx (write_frame op w)
+
+-- the members of `post` and of `unpost` for a document as it stands, whose word is given
+unfoldable pub standing_members : List ℕ → StandingDocument → Members
+standing_members op s =
+    put_if (codes "tx") (option_map whole s.tx)
+    (member (codes "clerk") (string s.clerk)
+    (member (codes "doc") (whole s.doc)
+    (member (codes "no") (whole s.no)
+    (member (codes "op") (string op) no_members))))
 
 -- the members of `mark` and of `activity`, whose word is given
 unfoldable pub switch_members : List ℕ → Switch → Members
@@ -124,11 +143,7 @@ manual_frame m =
 
 -- the members of `manual`
 unfoldable pub manual_members : Manual → Members
-manual_members m =
-    put_if (codes "tx") (option_map whole m.tx)
-    (put_if (codes "comment") (option_map string m.comment)
-    (put_if (codes "key") (option_map string m.key)
-    (put_if (codes "doc") (option_map whole m.doc) (manual_frame m))))
+manual_members m = put_optional m.doc m.key m.comment m.tx (manual_frame m)
 
 -- the members of `close`
 unfoldable pub close_members : Close → Members
@@ -169,9 +184,14 @@ doc_members d =
     (member (codes "doc") (whole d.doc)
     (member (codes "op") (string (codes "doc")) no_members)))
 
+-- the members of `post`
+abbrev pub post_members : Post → Members
+post_members (Content w) = write_members (codes "post") w
+post_members (Standing s) = standing_members (codes "post") s
+
 -- a request as JSON
 unfoldable pub request_data : Request → Data
-request_data (Write_request w) = object (write_members w)
+request_data (Write_request w) = object (write_members (codes "write") w)
 request_data (Mark_request s) = object (switch_members (codes "mark") s)
 request_data (Manual_request m) = object (manual_members m)
 request_data (Activity_request s) = object (switch_members (codes "activity") s)
@@ -179,6 +199,8 @@ request_data (Close_request c) = object (close_members c)
 request_data (Sweep_request s) = object (sweep_members s)
 request_data (Balance_request b) = object (balance_members b)
 request_data (Doc_request d) = object (doc_members d)
+request_data (Post_request p) = object (post_members p)
+request_data (Unpost_request s) = object (standing_members (codes "unpost") s)
 
 -- The canonical text of a request: compact JSON, members in byte order, dates in the long form,
 -- other texts as they were given, absent members absent.

@@ -18,7 +18,12 @@ use Rattle.desk_words.specs.declared.request.Request.TheVariants.{Close as Close
 use Rattle.desk_words.specs.declared.request.Request.TheVariants.{Sweep as Sweep_request}
 use Rattle.desk_words.specs.declared.request.Request.TheVariants.{Balance as Balance_request}
 use Rattle.desk_words.specs.declared.request.Request.TheVariants.{Doc as Doc_request}
+use Rattle.desk_words.specs.declared.request.Request.TheVariants.{Post as Post_request}
+use Rattle.desk_words.specs.declared.request.Request.TheVariants.{Unpost as Unpost_request}
+use Rattle.desk_words.specs.declared.request.Post.{Post}
+use Rattle.desk_words.specs.declared.request.Post.TheVariants.{Content, Standing}
 use Rattle.desk_words.specs.declared.request.Write.{Write}
+use Rattle.desk_words.specs.declared.request.StandingDocument.{StandingDocument}
 use Rattle.desk_words.specs.declared.request.Switch.{Switch}
 use Rattle.desk_words.specs.declared.request.Manual.{Manual}
 use Rattle.desk_words.specs.declared.request.Close.{Close}
@@ -82,7 +87,7 @@ IsRecordText (Ledger r) = IsLedgerText r
 abbrev pub IsSetText : SetText → Type 0
 IsSetText set = IsName set.space × AllByRecursion IsRecordText set.records
 
--- the members of `write` that are built are well formed, and the others absent
+-- the members of content that are built are well formed, and the others absent
 pub record IsWriteRequest (w : Write) : Type 0 where
   pub clerk : IsName w.clerk
   pub number : IsNumber w.no
@@ -95,6 +100,18 @@ pub record IsWriteRequest (w : Write) : Type 0 where
   pub lines : AllByRecursion AreFields w.lines
   pub comment : IfSome w.comment IsComment
   pub no_tx : w.tx ≡ None
+
+-- the members for a document as it stands that are built are well formed, and the others absent
+pub record IsStandingDocument (s : StandingDocument) : Type 0 where
+  pub clerk : IsName s.clerk
+  pub number : IsNumber s.no
+  pub doc : IsNumber s.doc
+  pub no_tx : s.tx ≡ None
+
+-- the members of `post` that are built are well formed, and the others absent
+abbrev pub IsPost : Post → Type 0
+IsPost (Content w) = IsWriteRequest w
+IsPost (Standing s) = IsStandingDocument s
 
 -- the members of a switch that are built are well formed, and the others absent
 pub record IsSwitch (s : Switch) : Type 0 where
@@ -152,3 +169,5 @@ IsRequest (Close_request c) = IsCloseRequest c
 IsRequest (Sweep_request s) = IsSweepRequest s
 IsRequest (Balance_request b) = IsBalanceRequest b
 IsRequest (Doc_request d) = IsDocQuestion d
+IsRequest (Post_request p) = IsPost p
+IsRequest (Unpost_request s) = IsStandingDocument s

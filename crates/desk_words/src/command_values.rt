@@ -1,33 +1,57 @@
 //! Requests about documents as JSON: each with the members that are never absent in byte order, and
 //! then those that may be.
-ghost use Rattle.std.specs.Prelude.{◌≡◌, IfOk};
+ghost use Rattle.std.specs.Prelude.{◌≡◌, IfOk, OnOk};
 ghost use Rattle.serde_json.specs.View.{members_view};
-ghost use Rattle.desk_words.specs.RequestTexts.{write_frame, write_members, switch_members};
+ghost use Rattle.desk_words.specs.RequestTexts.{put_optional, write_frame, write_members};
+ghost use Rattle.desk_words.specs.RequestTexts.{standing_members, post_members, switch_members};
 ghost use Rattle.desk_words.specs.RequestTexts.{manual_frame, manual_members, close_members};
 ghost use Rattle.desk_words.specs.RequestTexts.{sweep_members, doc_members};
 
 use crate::json_values::{put_some, put_text, put_value};
 use crate::parsed::Object;
-use crate::request::{Close, DocQuestion, Manual, Sweep, Switch, Write};
-use reg_base::Memory;
+use crate::request::{Close, DocQuestion, Manual, Post, StandingDocument, Sweep, Switch, Write};
+use reg_base::{Code, Comment, Memory};
 use std::alloc::Global;
 
 #[tactic(auto, unfolding(crate::specs::RequestTexts::write_members))]
-pub(crate) fn write_members(alloc: Global, write: &Write) -> Result<Object, Memory>
-    ensures { IfOk result (λ m. members_view m.entries ≡ write_members write.now) }
+pub(crate) fn write_members(alloc: Global, op: &str, write: &Write) -> Result<Object, Memory>
+    ensures { IfOk result (λ m. members_view m.entries ≡ write_members op.now write.now) }
 {
-    let mut members = write_frame(alloc, write)?;
-    put_some(alloc, &mut members, "doc", &write.doc)?;
-    put_some(alloc, &mut members, "key", &write.key)?;
-    put_some(alloc, &mut members, "comment", &write.comment)?;
-    put_some(alloc, &mut members, "tx", &write.tx)?;
+    let mut members = write_frame(alloc, op, write)?;
+    put_optional(
+        alloc,
+        &mut members,
+        &write.doc,
+        &write.key,
+        &write.comment,
+        &write.tx,
+    )?;
     Ok(members)
+}
+
+// Puts what a document may have among the members.
+#[tactic(auto, unfolding(crate::specs::RequestTexts::put_optional))]
+fn put_optional(
+    alloc: Global,
+    members: &mut Object,
+    doc: &Option<u32>,
+    key: &Option<Code>,
+    comment: &Option<Comment>,
+    tx: &Option<u8>,
+) -> Result<(), Memory>
+    ensures { OnOk result (members_view members.new.entries
+        ≡ put_optional doc.now key.now comment.now tx.now (members_view members.old.entries)) }
+{
+    put_some(alloc, members, "doc", doc)?;
+    put_some(alloc, members, "key", key)?;
+    put_some(alloc, members, "comment", comment)?;
+    put_some(alloc, members, "tx", tx)
 }
 
 // The members that are never absent.
 #[tactic(auto, unfolding(crate::specs::RequestTexts::write_frame))]
-fn write_frame(alloc: Global, write: &Write) -> Result<Object, Memory>
-    ensures { IfOk result (λ m. members_view m.entries ≡ write_frame write.now) }
+fn write_frame(alloc: Global, op: &str, write: &Write) -> Result<Object, Memory>
+    ensures { IfOk result (λ m. members_view m.entries ≡ write_frame op.now write.now) }
 {
     let mut members = Object::new(alloc);
     put_value(alloc, &mut members, "clerk", &write.clerk)?;
@@ -36,7 +60,33 @@ fn write_frame(alloc: Global, write: &Write) -> Result<Object, Memory>
     put_value(alloc, &mut members, "kind", &write.kind)?;
     put_value(alloc, &mut members, "lines", &write.lines)?;
     put_value(alloc, &mut members, "no", &write.no)?;
-    put_text(alloc, &mut members, "op", "write")?;
+    put_text(alloc, &mut members, "op", op)?;
+    Ok(members)
+}
+
+pub(crate) fn post_members(alloc: Global, post: &Post) -> Result<Object, Memory>
+    ensures { IfOk result (λ m. members_view m.entries ≡ post_members post.now) }
+{
+    match post {
+        Post::Content(write) => write_members(alloc, "post", write),
+        Post::Standing(standing) => standing_members(alloc, "post", standing),
+    }
+}
+
+#[tactic(auto, unfolding(crate::specs::RequestTexts::standing_members))]
+pub(crate) fn standing_members(
+    alloc: Global,
+    op: &str,
+    standing: &StandingDocument,
+) -> Result<Object, Memory>
+    ensures { IfOk result (λ m. members_view m.entries ≡ standing_members op.now standing.now) }
+{
+    let mut members = Object::new(alloc);
+    put_value(alloc, &mut members, "clerk", &standing.clerk)?;
+    put_value(alloc, &mut members, "doc", &standing.doc)?;
+    put_value(alloc, &mut members, "no", &standing.no)?;
+    put_text(alloc, &mut members, "op", op)?;
+    put_some(alloc, &mut members, "tx", &standing.tx)?;
     Ok(members)
 }
 
@@ -59,10 +109,14 @@ pub(crate) fn manual_members(alloc: Global, manual: &Manual) -> Result<Object, M
     ensures { IfOk result (λ m. members_view m.entries ≡ manual_members manual.now) }
 {
     let mut members = manual_frame(alloc, manual)?;
-    put_some(alloc, &mut members, "doc", &manual.doc)?;
-    put_some(alloc, &mut members, "key", &manual.key)?;
-    put_some(alloc, &mut members, "comment", &manual.comment)?;
-    put_some(alloc, &mut members, "tx", &manual.tx)?;
+    put_optional(
+        alloc,
+        &mut members,
+        &manual.doc,
+        &manual.key,
+        &manual.comment,
+        &manual.tx,
+    )?;
     Ok(members)
 }
 

@@ -64,7 +64,8 @@ pub enum WordFault {
     UnknownMember { name: Text },
     /// The first member, in the order of the operation's members, that is not of its shape. A key
     /// beside a document's number is not, since a document keeps its key: so a number out of its
-    /// range is told before such a key, and a type that is no name behind it.
+    /// range is told before such a key, and a type that is no name behind it. Content without a
+    /// type is not either, where a document is to be posted.
     BadMember { member: Member },
     /// Want of memory, which says nothing of the line.
     Memory,

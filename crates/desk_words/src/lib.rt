@@ -37,6 +37,6 @@ pub use fault::{Member, WordFault};
 pub use laws::{members_ascend, requests_read_back};
 pub use reply::{Acknowledgement, Answer, Field, Limit, Refusal, Reply, ShownDocument};
 pub use request::{
-    Balance, Close, DocQuestion, FieldText, FilterText, LedgerText, Manual, RecordText,
-    RegisterText, Request, SetText, Sweep, Switch, Write,
+    Balance, Close, DocQuestion, FieldText, FilterText, LedgerText, Manual, Post, RecordText,
+    RegisterText, Request, SetText, StandingDocument, Sweep, Switch, Write,
 };

@@ -1,8 +1,9 @@
 //! Operations, and the members that each has.
 ghost use Rattle.std.specs.Prelude.{◌≡◌, option_map};
 ghost use Rattle.serde_json.specs.View.{members_view};
-ghost use Rattle.desk_words.specs.Members.{operation_named, required_members, optional_members};
-ghost use Rattle.desk_words.specs.Members.{first_missing, is_name_of, first_unknown_member};
+ghost use Rattle.desk_words.specs.Members.{posting, operation_named, required_members};
+ghost use Rattle.desk_words.specs.Members.{other_members, has_member, first_missing, first_present};
+ghost use Rattle.desk_words.specs.Members.{is_name_of, first_unknown_member};
 
 use crate::fault::Member;
 use crate::parsed::{Object, member};
@@ -18,11 +19,17 @@ pub(crate) enum Operation {
     Sweep,
     Balance,
     Doc,
+    // Posting with the content of the document.
+    Post,
+    // Posting of a document as it stands.
+    PostStanding,
+    Unpost,
 }
 
 impl Operation {
-    pub(crate) fn named(name: &str) -> Option<Operation>
-        ensures { result ≡ operation_named name.now }
+    // The operation of that name. Posting that has a type has content too.
+    pub(crate) fn named(has_kind: bool, name: &str) -> Option<Operation>
+        ensures { result ≡ operation_named has_kind name.now }
     {
         match name {
             "write" => Some(Operation::Write),
@@ -33,7 +40,19 @@ impl Operation {
             "sweep" => Some(Operation::Sweep),
             "balance" => Some(Operation::Balance),
             "doc" => Some(Operation::Doc),
+            "post" => Some(Operation::posting(has_kind)),
+            "unpost" => Some(Operation::Unpost),
             _ => None,
+        }
+    }
+
+    fn posting(has_kind: bool) -> Operation
+        ensures { result ≡ posting has_kind }
+    {
+        if has_kind {
+            Operation::Post
+        } else {
+            Operation::PostStanding
         }
     }
 
@@ -42,7 +61,7 @@ impl Operation {
         ensures { result.now ≡ required_members self }
     {
         match self {
-            Operation::Write => &[
+            Operation::Write | Operation::Post => &[
                 Member::Op,
                 Member::Clerk,
                 Member::No,
@@ -66,22 +85,40 @@ impl Operation {
                 Member::Sets,
             ],
             Operation::Close => &[Member::Op, Member::Clerk, Member::No, Member::Date],
-            Operation::Sweep => &[Member::Op, Member::Clerk, Member::No, Member::Doc],
+            Operation::Sweep | Operation::PostStanding | Operation::Unpost => {
+                &[Member::Op, Member::Clerk, Member::No, Member::Doc]
+            }
             Operation::Balance => &[Member::Op, Member::Clerk, Member::Register],
             Operation::Doc => &[Member::Op, Member::Clerk, Member::Doc],
         }
     }
 
-    // The members that the operation may have besides.
-    pub(crate) fn optional_members(self) -> &'static [Member]
-        ensures { result.now ≡ optional_members self }
+    // The members that the operation knows besides.
+    pub(crate) fn other_members(self) -> &'static [Member]
+        ensures { result.now ≡ other_members self }
     {
         match self {
-            Operation::Write | Operation::Manual => &[Member::Doc, Member::Key, Member::Comment],
+            Operation::Write | Operation::Post | Operation::Manual => {
+                &[Member::Doc, Member::Key, Member::Comment]
+            }
             Operation::Balance => &[Member::Cut],
+            Operation::PostStanding => &[
+                Member::Key,
+                Member::Date,
+                Member::Head,
+                Member::Lines,
+                Member::Comment,
+            ],
             _ => &[],
         }
     }
+}
+
+// Whether an object has the member, whatever stands there.
+pub(crate) fn has_member(m: Member, object: &Object) -> bool
+    ensures { result ≡ has_member m (members_view object.now.entries) }
+{
+    member(object, m.name()).is_some()
 }
 
 // The first of the members that an object lacks.
@@ -89,7 +126,19 @@ pub(crate) fn first_missing(members: &[Member], object: &Object) -> Option<Membe
     ensures { result ≡ first_missing members.now (members_view object.now.entries) }
 {
     'members: for m in members {
-        if member(object, m.name()).is_none() {
+        if !has_member(*m, object) {
+            return Some(*m);
+        }
+    }
+    None
+}
+
+// The first of the members that an object has.
+pub(crate) fn first_present(members: &[Member], object: &Object) -> Option<Member>
+    ensures { result ≡ first_present members.now (members_view object.now.entries) }
+{
+    'members: for m in members {
+        if has_member(*m, object) {
             return Some(*m);
         }
     }
@@ -115,7 +164,7 @@ pub(crate) fn first_unknown_member(operation: Operation, object: &Object) -> Opt
 {
     'entries: for (name, _value) in object.iter() {
         let is_known = is_name_of(operation.required_members(), name.as_str())
-            || is_name_of(operation.optional_members(), name.as_str());
+            || is_name_of(operation.other_members(), name.as_str());
         if !is_known {
             return Some(name.as_str());
         }

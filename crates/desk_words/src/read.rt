@@ -8,13 +8,13 @@ ghost use Rattle.desk_words.specs.Reading.{request_in, request_of_text, request}
 ghost use Rattle.desk_words.specs.WellFormed.{IsRequest};
 
 use crate::fault::{Member, WordFault};
-use crate::members::{Operation, first_missing, first_unknown_member};
+use crate::members::{Operation, first_missing, first_unknown_member, has_member};
 use crate::parsed::{Object, json_document, member};
 use crate::read_requests::{
-    balance_request, close_request, doc_question, manual_request, sweep_request, switch_request,
-    write_request,
+    balance_request, close_request, doc_question, manual_request, standing_document, standing_post,
+    sweep_request, switch_request, write_request,
 };
-use crate::request::Request;
+use crate::request::{Post, Request};
 use json_laws::value_has_utf8;
 use reg_base::{Line, Text};
 use std::alloc::Global;
@@ -63,7 +63,12 @@ fn operation_of(object: &Object) -> Result<Operation, WordFault>
     let Some(value) = member(object, Member::Op.name()) else {
         return Err(WordFault::Missing { member: Member::Op });
     };
-    match value.as_str().and_then(Operation::named) {
+    let has_kind = has_member(Member::Kind, object);
+    let named = match value.as_str() {
+        Some(name) => Operation::named(has_kind, name),
+        None => None,
+    };
+    match named {
         Some(operation) => Ok(operation),
         None => Err(WordFault::UnknownOp),
     }
@@ -111,5 +116,10 @@ fn members_of(alloc: Global, operation: Operation, object: &Object) -> Result<Re
         Operation::Sweep => Ok(Request::Sweep(sweep_request(alloc, object)?)),
         Operation::Balance => Ok(Request::Balance(balance_request(alloc, object)?)),
         Operation::Doc => Ok(Request::Doc(doc_question(alloc, object)?)),
+        Operation::Post => Ok(Request::Post(Post::Content(write_request(alloc, object)?))),
+        Operation::PostStanding => {
+            Ok(Request::Post(Post::Standing(standing_post(alloc, object)?)))
+        }
+        Operation::Unpost => Ok(Request::Unpost(standing_document(alloc, object)?)),
     }
 }

@@ -4,11 +4,13 @@ ghost use Rattle.reg_base.specs.Results.{Gives};
 ghost use Rattle.desk_words.specs.declared.fault.WordFault.TheVariants.{Memory};
 ghost use Rattle.desk_words.specs.ReadRequests.{key_beside, write_request, switch_request};
 ghost use Rattle.desk_words.specs.ReadRequests.{manual_request, close_request, sweep_request};
-ghost use Rattle.desk_words.specs.ReadRequests.{balance_request, doc_question};
+ghost use Rattle.desk_words.specs.ReadRequests.{balance_request, doc_question, standing_document};
+ghost use Rattle.desk_words.specs.ReadRequests.{standing_post};
 
 use crate::fault::{Member, WordFault};
+use crate::members::{Operation, first_present};
 use crate::parsed::Object;
-use crate::request::{Balance, Close, DocQuestion, Manual, Sweep, Switch, Write};
+use crate::request::{Balance, Close, DocQuestion, Manual, StandingDocument, Sweep, Switch, Write};
 use crate::shapes::{read_member, read_optional};
 use reg_base::Code;
 use std::alloc::Global;
@@ -53,6 +55,36 @@ pub(crate) fn write_request(alloc: Global, object: &Object) -> Result<Write, Wor
         comment,
         tx: None,
     })
+}
+
+#[tactic(auto, unfolding(crate::specs::ReadRequests::standing_document))]
+pub(crate) fn standing_document(
+    alloc: Global,
+    object: &Object,
+) -> Result<StandingDocument, WordFault>
+    ensures { Gives Memory result (standing_document (members_view object.now.entries)) }
+{
+    let clerk = read_member(alloc, Member::Clerk, object)?;
+    let no = read_member(alloc, Member::No, object)?;
+    let doc = read_member(alloc, Member::Doc, object)?;
+    Ok(StandingDocument {
+        clerk,
+        no,
+        doc,
+        tx: None,
+    })
+}
+
+// A document to be posted as it stands: no member of content may be there.
+#[tactic(auto, unfolding(crate::specs::ReadRequests::standing_post))]
+pub(crate) fn standing_post(alloc: Global, object: &Object) -> Result<StandingDocument, WordFault>
+    ensures { Gives Memory result (standing_post (members_view object.now.entries)) }
+{
+    let standing = standing_document(alloc, object)?;
+    match first_present(Operation::PostStanding.other_members(), object) {
+        Some(member) => Err(WordFault::BadMember { member }),
+        None => Ok(standing),
+    }
 }
 
 #[tactic(auto, unfolding(crate::specs::ReadRequests::switch_request))]

@@ -1,9 +1,11 @@
 //! Refusals as JSON.
-ghost use Rattle.std.specs.Prelude.{◌≡◌, codes, string_bytes, IsSome, IfOk};
+ghost use Rattle.std.specs.Prelude.{◌≡◌, codes, string_bytes, map, IsSome, IfOk};
 ghost use Rattle.serde_json.specs.Data.{string, no_members, member};
 ghost use Rattle.serde_json.specs.View.{view, members_view};
 ghost use Rattle.reg_base.specs.Dates.{date_text};
-ghost use Rattle.desk_words.specs.JsonValues.{whole};
+ghost use Rattle.reg_base.specs.Numbers.{sum_text};
+ghost use Rattle.desk_words.specs.JsonValues.{whole, texts_data};
+ghost use Rattle.desk_words.specs.ReplyWords.{value_text};
 ghost use Rattle.desk_words.specs.ReplyTexts.{HasMissingScale, RefusalHasScales};
 ghost use Rattle.desk_words.specs.RefusalTexts.{word_fault_detail, word_fault_members};
 ghost use Rattle.desk_words.specs.RefusalTexts.{place_members, missing_text as missing_text_of};
@@ -14,7 +16,7 @@ use crate::fault::WordFault;
 use crate::json_values::{put_text, put_value};
 use crate::parsed::Object;
 use crate::reply::{Refusal, entry_fault_number, post_fault_number, state_name};
-use reg_base::{Date, Memory, PostFault, Scale, sum_string};
+use reg_base::{Date, List, Memory, Name, PostFault, Scale, Value, sum_string};
 use serde_json::{Value as Json, put};
 use std::alloc::Global;
 
@@ -49,7 +51,34 @@ fn refusal_detail(alloc: Global, refusal: &Refusal) -> Result<Object, Memory>
         Refusal::Closed { date } => date_member(alloc, *date),
         Refusal::Limit { which, number } => limit_members(alloc, which.name(), *number),
         Refusal::Rule { fault, scale } => post_fault_members(alloc, *scale, fault),
+        Refusal::Control {
+            register,
+            values,
+            balance,
+            scale,
+        } => control_members(alloc, register, values, *balance, *scale),
     }
+}
+
+// A resource that would fall below zero: what it would come to, and whose it is.
+fn control_members(
+    alloc: Global,
+    register: &Name,
+    values: &List<Value>,
+    balance: i128,
+    scale: Scale,
+) -> Result<Object, Memory>
+    ensures { IfOk result (λ m. members_view m.entries
+        ≡ member (codes "balance") (string (sum_text balance scale))
+        (member (codes "register") (string register.now)
+        (member (codes "values") (texts_data (map value_text values.now)) no_members))) }
+{
+    let mut members = Object::new(alloc);
+    let balance = sum_string(alloc, balance, scale.get())?;
+    put(&mut members, alloc, "balance", Json::String(balance))?;
+    put_value(alloc, &mut members, "register", register)?;
+    put_value(alloc, &mut members, "values", values)?;
+    Ok(members)
 }
 
 #[tactic(auto, unfolding(crate::specs::RefusalTexts::post_fault_members))]

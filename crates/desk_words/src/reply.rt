@@ -11,6 +11,7 @@ use crate::reply_values::reply_value;
 use crate::request::{FieldText, SetText};
 use reg_base::{
     Code, Comment, Date, DocState, EntryFault, List, Memory, Name, PostFault, Right, Scale, SumRow,
+    Value,
 };
 use std::alloc::Global;
 
@@ -124,6 +125,16 @@ pub enum Refusal {
         /// The decimals of the quantity that is missing; a shortage has them.
         scale: Option<Scale>,
     },
+    /// A resource that is watched would fall below zero.
+    Control {
+        register: Name,
+        /// The values whose resource it is, one of each dimension.
+        values: List<Value>,
+        /// What the resource would come to.
+        balance: i128,
+        /// The decimals of the resource.
+        scale: Scale,
+    },
 }
 
 /// A field of a request, as a refusal names it.
@@ -184,6 +195,7 @@ impl Refusal {
             Refusal::Closed { .. } => 13,
             Refusal::Limit { .. } => 14,
             Refusal::Rule { .. } => 15,
+            Refusal::Control { .. } => 18,
         }
     }
 
@@ -204,6 +216,7 @@ impl Refusal {
             Refusal::Closed { .. } => "Closed",
             Refusal::Limit { .. } => "Limit",
             Refusal::Rule { .. } => "Rule",
+            Refusal::Control { .. } => "Control",
         }
     }
 }

@@ -3,7 +3,7 @@ ghost use Rattle.std.specs.Prelude.{◌≡◌, length, map, string_bytes, All, I
 ghost use Rattle.serde_json.specs.Data.{string, object, no_members, member};
 ghost use Rattle.serde_json.specs.View.{view};
 ghost use Rattle.desk_words.specs.ReplyTexts.{AnswerHasScales, HasScales};
-ghost use Rattle.desk_words.specs.ReplyTexts.{value_text as value_text_of};
+ghost use Rattle.desk_words.specs.ReplyWords.{value_text as value_text_of};
 ghost use Rattle.desk_words.specs.ReplyTexts.{sum_texts as sum_texts_of, row_data, rows_data};
 ghost use Rattle.desk_words.specs.ReplyTexts.{document_data, acknowledgement_data};
 ghost use Rattle.desk_words.specs.ReplyTexts.{key_data, kind_name as kind_name_of, shown_data};

@@ -12,9 +12,11 @@ pub enum Request {
     Sweep(Sweep),
     Balance(Balance),
     Doc(DocQuestion),
+    Post(Post),
+    Unpost(StandingDocument),
 }
 
-/// Write a document of a type, or give a written one new content.
+/// The content of a document of a type: of a new one, or of one that stands.
 #[derive(Drop)]
 pub struct Write {
     pub clerk: Name,
@@ -30,6 +32,26 @@ pub struct Write {
     pub head: List<FieldText>,
     pub lines: List<List<FieldText>>,
     pub comment: Option<Comment>,
+    /// The open transaction that the request is of.
+    pub tx: Option<u8>,
+}
+
+/// Post a document: its records are made by the rules of its type.
+#[derive(Drop)]
+pub enum Post {
+    /// A document that is given its content with the request.
+    Content(Write),
+    /// A document as it stands.
+    Standing(StandingDocument),
+}
+
+/// A document that is posted or unposted as it stands.
+#[derive(Drop)]
+pub struct StandingDocument {
+    pub clerk: Name,
+    /// The request's number among those of its clerk, from 1.
+    pub no: u32,
+    pub doc: u32,
     /// The open transaction that the request is of.
     pub tx: Option<u8>,
 }

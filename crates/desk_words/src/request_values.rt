@@ -9,7 +9,8 @@ ghost use Rattle.desk_words.specs.RequestTexts.{sets_data, filters_data, balance
 ghost use Rattle.desk_words.specs.RequestTexts.{balance_members, request_data};
 
 use crate::command_values::{
-    close_members, doc_members, manual_members, sweep_members, switch_members, write_members,
+    close_members, doc_members, manual_members, post_members, standing_members, sweep_members,
+    switch_members, write_members,
 };
 use crate::json_values::{ToJson, array_value, push_items, put_some, put_text, put_value, text};
 use crate::parsed::Object;
@@ -24,7 +25,7 @@ pub(crate) fn request_value(alloc: Global, request: &Request) -> Result<Json, Me
     ensures { IfOk result (λ v. view v ≡ request_data request.now) }
 {
     match request {
-        Request::Write(write) => Ok(Json::Object(write_members(alloc, write)?)),
+        Request::Write(write) => Ok(Json::Object(write_members(alloc, "write", write)?)),
         Request::Mark(mark) => Ok(Json::Object(switch_members(alloc, "mark", mark)?)),
         Request::Manual(manual) => Ok(Json::Object(manual_members(alloc, manual)?)),
         Request::Activity(activity) => {
@@ -34,6 +35,10 @@ pub(crate) fn request_value(alloc: Global, request: &Request) -> Result<Json, Me
         Request::Sweep(sweep) => Ok(Json::Object(sweep_members(alloc, sweep)?)),
         Request::Balance(balance) => Ok(Json::Object(balance_members(alloc, balance)?)),
         Request::Doc(doc) => Ok(Json::Object(doc_members(alloc, doc)?)),
+        Request::Post(post) => Ok(Json::Object(post_members(alloc, post)?)),
+        Request::Unpost(standing) => {
+            Ok(Json::Object(standing_members(alloc, "unpost", standing)?))
+        }
     }
 }
 

@@ -3,7 +3,7 @@ use Rattle.std.proofs.lemmas.Simd.{map-map}
 use Rattle.serde_json.specs.Data.{Data, string, array}
 use Rattle.serde_json.specs.View.{view, items_of}
 use Rattle.desk_words.specs.JsonValues.{texts_data}
-use Rattle.desk_words.specs.ReplyTexts.{value_text}
+use Rattle.desk_words.specs.ReplyWords.{value_text}
 use Rattle.desk_words.proofs.reply_values.ListValueToJson.to_json.Goals as goal
 
 pub returns : goal.returns
