@@ -5,6 +5,7 @@ pub mod NumberLemmas
 pub mod RefusalScales
 pub mod RepeatLemmas
 pub mod RowBooks
+pub mod RuleScales
 pub mod WorkedDocuments
 pub mod WorkedEntries
 pub mod WorkedLimits

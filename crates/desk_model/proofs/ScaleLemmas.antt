@@ -17,8 +17,10 @@ use Rattle.cfg_model.specs.declared.register.Register.{Register}
 use Rattle.cfg_model.specs.declared.register.Resource.{Resource}
 use Rattle.cfg_model.specs.Places.{register_place}
 use Rattle.desk_words.specs.declared.request.Request.{Request}
-use Rattle.desk_words.specs.declared.request.Request.TheVariants.{Write, Mark, Manual, Activity}
-use Rattle.desk_words.specs.declared.request.Request.TheVariants.{Close, Sweep, Balance, Doc}
+use Rattle.desk_words.specs.declared.request.Request.TheVariants.{Write, Post, Unpost, Mark, Manual}
+use Rattle.desk_words.specs.declared.request.Request.TheVariants.{Activity, Close, Sweep, Balance}
+use Rattle.desk_words.specs.declared.request.Request.TheVariants.{Doc}
+use Rattle.desk_words.specs.declared.request.Post.TheVariants.{Content, Standing}
 use Rattle.desk_words.specs.declared.request.Balance.{Balance as BalanceRequest}
 use Rattle.desk_words.specs.declared.reply.Answer.TheVariants.{Balance as BalanceAnswer}
 use Rattle.desk_words.specs.declared.reply.Refusal.{Refusal}
@@ -50,6 +52,8 @@ use Rattle.desk_model.proofs.RefusalScales.{Plainly, plan_write-plainly, plan_ma
 use Rattle.desk_model.proofs.RefusalScales.{plan_manual-plainly, plan_activity-plainly}
 use Rattle.desk_model.proofs.RefusalScales.{plan_sweep-plainly, limits_of-plainly}
 use Rattle.desk_model.proofs.RuleScales.{document_from-plainly, control_fault-plainly}
+use Rattle.desk_model.proofs.RuleScales.{plan_post-plainly, plan_standing-plainly}
+use Rattle.desk_model.proofs.RuleScales.{plan_unpost-plainly}
 
 -- ---- effects
 
@@ -181,6 +185,11 @@ deed-fine : (desk : Desk) (request : Request) →
     desk.setting desk.serial (command_at desk request).number (meaning_at desk request).deed)
 deed-fine desk (Write w) =
     change-fine desk (Write w) _ _ (plan_write-plainly desk.setting.config w)
+deed-fine desk (Post (Content w)) =
+    change-fine desk (Post (Content w)) _ _ (plan_post-plainly desk.setting.config w)
+deed-fine desk (Post (Standing s)) =
+    change-fine desk (Post (Standing s)) _ _ plan_standing-plainly
+deed-fine desk (Unpost u) = change-fine desk (Unpost u) _ _ plan_unpost-plainly
 deed-fine desk (Mark m) = change-fine desk (Mark m) _ _ (plan_mark-plainly m)
 deed-fine desk (Manual m) =
     change-fine desk (Manual m) _ _ (plan_manual-plainly desk.setting.config m)

@@ -5,13 +5,16 @@ use Rattle.reg_base.specs.declared.right.Right.{Right}
 use Rattle.reg_base.specs.declared.right.Right.TheVariants.{Write as WriteRight, Post as PostRight}
 use Rattle.reg_base.specs.declared.right.Right.TheVariants.{Manual as ManualRight, Read, Admin}
 use Rattle.desk_words.specs.declared.request.Request.{Request}
-use Rattle.desk_words.specs.declared.request.Request.TheVariants.{Write, Mark, Manual, Activity}
-use Rattle.desk_words.specs.declared.request.Request.TheVariants.{Close, Sweep, Balance, Doc}
+use Rattle.desk_words.specs.declared.request.Request.TheVariants.{Write, Post, Unpost, Mark, Manual}
+use Rattle.desk_words.specs.declared.request.Request.TheVariants.{Activity, Close, Sweep, Balance}
+use Rattle.desk_words.specs.declared.request.Request.TheVariants.{Doc}
+use Rattle.desk_words.specs.declared.request.Post.TheVariants.{Content, Standing}
 use Rattle.desk_words.specs.declared.reply.Refusal.{Refusal}
 use Rattle.desk_model.specs.declared.plan.Plan.{Plan}
 use Rattle.desk_model.specs.Plans.{Sight, Deed, Meaning, changes, closes, asks_register}
 use Rattle.desk_model.specs.Plans.{asks_document}
 use Rattle.desk_model.specs.Writes.{plan_write}
+use Rattle.desk_model.specs.Posts.{plan_post, plan_standing, plan_unpost}
 use Rattle.desk_model.specs.Manuals.{plan_manual}
 use Rattle.desk_model.specs.States.{plan_mark, plan_activity, plan_sweep}
 use Rattle.desk_model.specs.Questions.{question_balance, question_doc}
@@ -58,6 +61,10 @@ asking clerk deed = record {
 -- what a request means
 abbrev pub meaning_of : Config → Request → Meaning
 meaning_of config (Write w) = making w.clerk WriteRight w.no w.doc w.key (plan_write config w)
+meaning_of config (Post (Content w)) =
+    making w.clerk PostRight w.no w.doc w.key (plan_post config w)
+meaning_of config (Post (Standing s)) = changing s.clerk PostRight s.no s.doc plan_standing
+meaning_of config (Unpost u) = changing u.clerk PostRight u.no u.doc plan_unpost
 meaning_of config (Mark m) = changing m.clerk PostRight m.no m.doc (plan_mark m)
 meaning_of config (Manual m) = making m.clerk ManualRight m.no m.doc m.key (plan_manual config m)
 meaning_of config (Activity m) = changing m.clerk ManualRight m.no m.doc (plan_activity m)
