@@ -8,6 +8,7 @@ mod PlainLemmas
 mod ShapesBack
 mod TextsBack
 mod DocumentsBack
+mod StandingBack
 pub mod ReadBackLemmas
 mod ReadValues
 mod ShapeLemmas
