@@ -234,7 +234,7 @@ content_built-back op operation made utf8 w h data_is members_are doc key commen
     ∙ ap (λ (r : OrFault Write). r >>= λ x. Ok (made x)) (content-back op w h doc key comment o))
 
 optional : (w : Write) → IsWriteRequest w → AreOptional w.doc w.key w.comment
-optional w h = record { number = h.doc; code = h.key; alone = h.alone; text = h.comment; }
+optional w h = record { number = h.doc; code = h.key; alone = h.alone; text = h.comment }
 
 pub write_text-back : (w : Write) → IsWriteRequest w → ReadsBack (Write_request w)
 unfolding request_data members_of check_present check_known

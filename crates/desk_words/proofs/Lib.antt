@@ -16,3 +16,4 @@ pub mod WellFormedLemmas
 mod WorkedRows
 mod WorkedRequests
 mod WorkedReplies
+mod WorkedPostings
