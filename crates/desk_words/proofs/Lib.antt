@@ -7,6 +7,7 @@ pub mod RequestLemmas
 mod PlainLemmas
 mod ShapesBack
 mod TextsBack
+mod OptionalBack
 mod DocumentsBack
 mod StandingBack
 pub mod ReadBackLemmas
