@@ -35,7 +35,7 @@ use Rattle.desk_words.proofs.ShapesBack.{json_sets-back, json_fields-back, json_
 use Rattle.desk_words.proofs.TextsBack.{AsksFor, ReadsBack, ReadsBack-members, IsPlain-whole}
 use Rattle.desk_words.proofs.OptionalBack.{is_optional, found_in_frame, found_doc, found_key}
 use Rattle.desk_words.proofs.OptionalBack.{found_comment, shape_if-back, stands_alone}
-use Rattle.desk_words.proofs.OptionalBack.{known-optional, AreOptional, MembersArePlain-optional}
+use Rattle.desk_words.proofs.OptionalBack.{known-optional, MembersArePlain-optional}
 use Rattle.desk_words.proofs.OptionalBack.{depth-optional}
 
 -- ---- content: `write` and `post`
@@ -171,8 +171,9 @@ content_text-back op operation made utf8 w h data_is members_are asks =
 pub write_text-back : (w : Write) → IsWriteRequest w → ReadsBack (Write_request w)
 unfolding request_data members_of check_present check_known
 write_text-back w h =
-    content_text-back (codes "write") Write_op Write_request (IsUtf8-tested (codes "write") refl) w h
-    refl (λ ms. refl) (content-asks (codes "write") w h.no_tx)
+    content_text-back (codes "write") Write_op Write_request
+    (IsUtf8-tested (codes "write") refl) w h refl (λ ms. refl)
+    (content-asks (codes "write") w h.no_tx)
 
 pub post_text-back : (w : Write) → IsWriteRequest w → ReadsBack (Post_request (Content w))
 unfolding request_data members_of check_present check_known

@@ -1,6 +1,6 @@
 -- Members with those among them that a document may have: each is found as it was put.
 use Rattle.std.proofs.Common.{◌≡◌, ℕ, ◌≤◌, Bool, true, false, ◌||◌, if◌then◌else◌, Option, Some}
-use Rattle.std.proofs.Common.{None, IfSome, option_map, List, Ok, codes, refl, ap, subst, sym, ◌∙◌}
+use Rattle.std.proofs.Common.{None, IfSome, option_map, List, Ok, codes, refl, ◌∙◌}
 use Rattle.std.proofs.Common.{Ordering, Less, Equal, Greater, nat_cmp, arith}
 use Rattle.std.proofs.lemmas.Bool.{or_parts}
 use Rattle.std.proofs.lemmas.Slice.Eq.{bytes_eq-Decides}
@@ -39,7 +39,8 @@ found_other q k data_of (Some x) ms other =
 
 -- its own name is found as it was put
 found_here : {X : Type 0} (k : List ℕ) (data_of : X → Data) (o : Option X) (ms : Members)
-    → get_member k ms ≡ None → get_member k (put_if k (option_map data_of o) ms) ≡ option_map data_of o
+    → get_member k ms ≡ None
+    → get_member k (put_if k (option_map data_of o) ms) ≡ option_map data_of o
 found_here k data_of None ms absent = absent
 found_here k data_of (Some x) ms absent = get_member-put k (data_of x) ms
 
@@ -77,6 +78,7 @@ found_in_frame q other doc key comment tx frame =
     ∙ found_other q (codes "key") string key _ c.0
     ∙ found_other q (codes "doc") whole doc frame c.1
 
+-- each of them is found as it was put, where nothing stands there before
 pub found_doc : (doc : Option ℕ) (key comment : Option (List ℕ)) (tx : Option ℕ) (frame : Members)
     → get_member (codes "doc") frame ≡ None
     → get_member (codes "doc") (put_optional doc key comment tx frame) ≡ option_map whole doc
@@ -137,7 +139,7 @@ known-put_if : {X : Type 0} (op : Operation) (k : List ℕ) (data_of : X → Dat
 known-put_if op k data_of None ms is h = h
 known-put_if op k data_of (Some x) ms is h = known-put op k (data_of x) ms is h
 
--- without a transaction
+-- members that are known stay so, where there is no transaction
 pub known-optional : (op : Operation) (doc : Option ℕ) (key comment : Option (List ℕ))
     → (tx : Option ℕ) (frame : Members) → is_known op (codes "comment") ≡ true
     → is_known op (codes "key") ≡ true → is_known op (codes "doc") ≡ true → tx ≡ None
@@ -151,8 +153,9 @@ known-optional op doc key comment (Some n) frame a b c none h = absurd cc
 
 -- ---- they are plain, and nest no deeper
 
--- they are well formed
-pub record AreOptional (doc : Option ℕ) (key comment : Option (List ℕ)) (tx : Option ℕ) : Type 0 where
+-- they are well formed, and there is no transaction
+pub record AreOptional (doc : Option ℕ) (key comment : Option (List ℕ)) (tx : Option ℕ)
+    : Type 0 where
   pub number : IfSome doc IsNumber
   pub code : IfSome key IsCode
   pub text : IfSome comment IsComment

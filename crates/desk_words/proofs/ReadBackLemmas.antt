@@ -55,22 +55,10 @@ use Rattle.desk_words.proofs.StandingBack.{standing-same, post_standing-back, un
 
 -- without a transaction
 abbrev switched : Switch → Switch
-switched s = record {
-  clerk = s.clerk;
-  no = s.no;
-  doc = s.doc;
-  on = s.on;
-  tx = None;
-}
+switched s = record s { tx = None }
 
 switched-same : (s : Switch) → IsSwitch s → s ≡ switched s
-switched-same s h = λ i. record {
-  clerk = s.clerk;
-  no = s.no;
-  doc = s.doc;
-  on = s.on;
-  tx = h.no_tx i;
-}
+switched-same s h = λ i. record s { tx = h.no_tx i }
 
 switch-back : (op : List ℕ) (s : Switch) → IsSwitch s
     → switch_request (switch_members op (switched s)) ≡ Ok (switched s)
@@ -111,8 +99,9 @@ depth-switch op s = omega arith
 mark_text-back : (s : Switch) → IsSwitch s → ReadsBack (Mark_request (switched s))
 unfolding request_data operation_of check_present check_known members_of switch_members
 mark_text-back s h =
-    ReadsBack-members (Mark_request (switched s)) Mark_op (switch_members (codes "mark") (switched s))
-    refl (IsPlain-switch (codes "mark") (IsUtf8-tested (codes "mark") refl) s h)
+    ReadsBack-members (Mark_request (switched s)) Mark_op
+    (switch_members (codes "mark") (switched s)) refl
+    (IsPlain-switch (codes "mark") (IsUtf8-tested (codes "mark") refl) s h)
     (depth-switch (codes "mark") s) (refl, refl, refl)
     (ap (λ (r : OrFault Switch). r >>= λ x. Ok (Mark_request x)) (switch-back (codes "mark") s h))
 
@@ -202,18 +191,10 @@ sweep_text-back s h =
 
 -- without a transaction
 abbrev question : DocQuestion → DocQuestion
-question d = record {
-  clerk = d.clerk;
-  doc = d.doc;
-  tx = None;
-}
+question d = record d { tx = None }
 
 question-same : (d : DocQuestion) → IsDocQuestion d → d ≡ question d
-question-same d h = λ i. record {
-  clerk = d.clerk;
-  doc = d.doc;
-  tx = h.no_tx i;
-}
+question-same d h = λ i. record d { tx = h.no_tx i }
 
 doc-back : (d : DocQuestion) → IsDocQuestion d
     → members_of Doc_op (doc_members (question d)) ≡ Ok (Doc_request (question d))
@@ -250,20 +231,10 @@ doc_text-back d h =
 
 -- a balance without the members that are not built
 abbrev asked : Balance → Option Cut → Balance
-asked b cut = record {
-  clerk = b.clerk;
-  register = b.register;
-  filter = None;
-  group = None;
-  cut =
-      cut;
-  tx = None;
-}
+asked b cut = record b { filter = None; group = None; cut = cut; tx = None }
 
 asked-same : (b : Balance) → IsBalanceRequest b → (cut : Option Cut) → b.cut ≡ cut → b ≡ asked b cut
-asked-same b h cut is = λ i. record {
-  clerk = b.clerk;
-  register = b.register;
+asked-same b h cut is = λ i. record b {
   filter = h.no_filter i;
   group = h.no_group i;
   cut = is i;

@@ -21,20 +21,10 @@ use Rattle.desk_words.proofs.TextsBack.{ReadsBack, ReadsBack-members, IsPlain-wh
 
 -- without a transaction
 abbrev pub standing : StandingDocument → StandingDocument
-standing s = record {
-  clerk = s.clerk;
-  no = s.no;
-  doc = s.doc;
-  tx = None;
-}
+standing s = record s { tx = None }
 
 pub standing-same : (s : StandingDocument) → IsStandingDocument s → s ≡ standing s
-standing-same s h = λ i. record {
-  clerk = s.clerk;
-  no = s.no;
-  doc = s.doc;
-  tx = h.no_tx i;
-}
+standing-same s h = λ i. record s { tx = h.no_tx i }
 
 standing-back : (op : List ℕ) (s : StandingDocument) → IsStandingDocument s
     → standing_document (standing_members op (standing s)) ≡ Ok (standing s)
