@@ -7,7 +7,9 @@ pub mod RequestLemmas
 mod PlainLemmas
 mod ShapesBack
 mod TextsBack
+mod OptionalBack
 mod DocumentsBack
+mod StandingBack
 pub mod ReadBackLemmas
 mod ReadValues
 mod ShapeLemmas
@@ -15,3 +17,4 @@ pub mod WellFormedLemmas
 mod WorkedRows
 mod WorkedRequests
 mod WorkedReplies
+mod WorkedPostings

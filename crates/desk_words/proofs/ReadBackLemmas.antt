@@ -1,14 +1,21 @@
 -- The canonical text of a request is read as that request.
-use Rattle.std.proofs.Common.{◌≡◌, ◌≤◌, Option, Some, None, IfSome, Ok, codes, refl, sym}
-use Rattle.std.proofs.Common.{◌∙◌, subst, arith}
+use Rattle.std.proofs.Common.{◌≡◌, ℕ, ◌≤◌, List, Option, Some, None, IfSome, Ok}
+use Rattle.std.proofs.Common.{codes, IsUtf8, refl, ap, sym, subst, arith}
 use Rattle.serde_json.specs.Data.{object, depth}
 use Rattle.serde_json.specs.Read.{max_depth}
 use Rattle.json_laws.specs.Plain.{IsPlain}
+use Rattle.reg_base.specs.Results.{◌>>=◌}
 use Rattle.reg_base.specs.declared.line.Line.TheVariants.{Text}
 use Rattle.reg_base.specs.Cuts.{IsCut}
 use Rattle.reg_base.specs.declared.cut.Cut.{Cut}
 use Rattle.reg_base.proofs.ForAbove.{IsUtf8-name, IsUtf8-date_text, IsUtf8-cut_text}
 use Rattle.reg_base.proofs.ForAbove.{IsUtf8-tested}
+use Rattle.desk_words.specs.declared.members.Operation.TheVariants.{Mark as Mark_op}
+use Rattle.desk_words.specs.declared.members.Operation.TheVariants.{Activity as Activity_op}
+use Rattle.desk_words.specs.declared.members.Operation.TheVariants.{Close as Close_op}
+use Rattle.desk_words.specs.declared.members.Operation.TheVariants.{Sweep as Sweep_op}
+use Rattle.desk_words.specs.declared.members.Operation.TheVariants.{Balance as Balance_op}
+use Rattle.desk_words.specs.declared.members.Operation.TheVariants.{Doc as Doc_op}
 use Rattle.desk_words.specs.declared.request.Request.{Request}
 use Rattle.desk_words.specs.declared.request.Request.TheVariants.{Write as Write_request}
 use Rattle.desk_words.specs.declared.request.Request.TheVariants.{Mark as Mark_request}
@@ -18,19 +25,21 @@ use Rattle.desk_words.specs.declared.request.Request.TheVariants.{Close as Close
 use Rattle.desk_words.specs.declared.request.Request.TheVariants.{Sweep as Sweep_request}
 use Rattle.desk_words.specs.declared.request.Request.TheVariants.{Balance as Balance_request}
 use Rattle.desk_words.specs.declared.request.Request.TheVariants.{Doc as Doc_request}
+use Rattle.desk_words.specs.declared.request.Request.TheVariants.{Post as Post_request}
+use Rattle.desk_words.specs.declared.request.Request.TheVariants.{Unpost as Unpost_request}
+use Rattle.desk_words.specs.declared.request.Post.TheVariants.{Content, Standing}
+use Rattle.desk_words.specs.declared.request.StandingDocument.{StandingDocument}
 use Rattle.desk_words.specs.declared.request.Switch.{Switch}
 use Rattle.desk_words.specs.declared.request.Close.{Close}
 use Rattle.desk_words.specs.declared.request.Sweep.{Sweep}
 use Rattle.desk_words.specs.declared.request.Balance.{Balance}
 use Rattle.desk_words.specs.declared.request.DocQuestion.{DocQuestion}
-use Rattle.desk_words.specs.Shapes.{value_at, json_boolean}
-use Rattle.desk_words.specs.ReadRequests.{switch_request}
-use Rattle.desk_words.specs.ReadRequests.{close_request, sweep_request}
+use Rattle.desk_words.specs.Shapes.{OrFault, value_at, json_boolean}
+use Rattle.desk_words.specs.ReadRequests.{switch_request, close_request, sweep_request}
 use Rattle.desk_words.specs.ReadRequests.{balance_request, doc_question}
 use Rattle.desk_words.specs.Reading.{operation_of, check_present, check_known, members_of}
-use Rattle.desk_words.specs.Reading.{request_in, request_of_text, request}
-use Rattle.desk_words.specs.RequestTexts.{switch_members}
-use Rattle.desk_words.specs.RequestTexts.{close_members, sweep_members}
+use Rattle.desk_words.specs.Reading.{request}
+use Rattle.desk_words.specs.RequestTexts.{switch_members, close_members, sweep_members}
 use Rattle.desk_words.specs.RequestTexts.{balance_frame, balance_members, doc_members}
 use Rattle.desk_words.specs.RequestTexts.{request_data, request_text}
 use Rattle.desk_words.specs.WellFormed.{IsSwitch}
@@ -38,45 +47,33 @@ use Rattle.desk_words.specs.WellFormed.{IsCloseRequest, IsSweepRequest}
 use Rattle.desk_words.specs.WellFormed.{IsBalanceRequest, IsDocQuestion, IsRequest}
 use Rattle.desk_words.proofs.ShapesBack.{json_name-back, json_number-back}
 use Rattle.desk_words.proofs.ShapesBack.{json_date-back, json_cut-back}
-use Rattle.desk_words.proofs.TextsBack.{text-back, IsPlain-whole}
-use Rattle.desk_words.proofs.DocumentsBack.{write_text-back, manual_text-back}
+use Rattle.desk_words.proofs.TextsBack.{AsksFor, ReadsBack, ReadsBack-members, IsPlain-whole}
+use Rattle.desk_words.proofs.DocumentsBack.{write_text-back, post_text-back, manual_text-back}
+use Rattle.desk_words.proofs.StandingBack.{standing-same, post_standing-back, unpost_text-back}
 
 -- ---- `mark` and `activity`
 
 -- without a transaction
 abbrev switched : Switch → Switch
-switched s = record {
-  clerk = s.clerk;
-  no = s.no;
-  doc = s.doc;
-  on = s.on;
-  tx = None;
-}
+switched s = record s { tx = None }
 
 switched-same : (s : Switch) → IsSwitch s → s ≡ switched s
-switched-same s h = λ i. record {
-  clerk = s.clerk;
-  no = s.no;
-  doc = s.doc;
-  on = s.on;
-  tx = h.no_tx i;
-}
+switched-same s h = λ i. record s { tx = h.no_tx i }
 
-mark-back : (s : Switch) → IsSwitch s
-    → request_in (switch_members (codes "mark") (switched s)) ≡ Ok (Mark_request (switched s))
-unfolding request_in operation_of check_present check_known members_of switch_request value_at
-    switch_members json_boolean
-mark-back s h =
+switch-back : (op : List ℕ) (s : Switch) → IsSwitch s
+    → switch_request (switch_members op (switched s)) ≡ Ok (switched s)
+unfolding switch_request value_at switch_members json_boolean
+switch-back op s h =
     rw (
       json_name-back _ s.clerk h.clerk,
       json_number-back _ s.no h.number,
       json_number-back _ s.doc h.doc,
     )
 
-IsPlain-mark : (s : Switch) → IsSwitch s
-    → IsPlain (object (switch_members (codes "mark") (switched s)))
+IsPlain-switch : (op : List ℕ) → IsUtf8 op → (s : Switch) → IsSwitch s
+    → IsPlain (object (switch_members op (switched s)))
 unfolding switch_members
-IsPlain-mark s h = (
+IsPlain-switch op utf8 s h = (
   (IsUtf8-tested (codes "clerk") refl, refl),
   IsUtf8-name s.clerk h.clerk,
   (
@@ -88,76 +85,41 @@ IsPlain-mark s h = (
       (
         (IsUtf8-tested (codes "on") refl, refl),
         tt,
-        ((IsUtf8-tested (codes "op") refl, refl), IsUtf8-tested (codes "mark") refl, tt),
+        ((IsUtf8-tested (codes "op") refl, refl), utf8, tt),
       ),
     ),
   ),
 )
 
-depth-mark : (s : Switch) → depth (object (switch_members (codes "mark") (switched s))) ≤ max_depth
+depth-switch : (op : List ℕ) (s : Switch)
+    → depth (object (switch_members op (switched s))) ≤ max_depth
 unfolding switch_members
-depth-mark s = omega arith
+depth-switch op s = omega arith
 
-mark_text-back : (s : Switch) → IsSwitch s
-    → request_of_text (request_text (Mark_request (switched s))) ≡ Ok (Mark_request (switched s))
-unfolding request_text request_data
+mark_text-back : (s : Switch) → IsSwitch s → ReadsBack (Mark_request (switched s))
+unfolding request_data operation_of check_present check_known members_of switch_members
 mark_text-back s h =
-    text-back (switch_members (codes "mark") (switched s)) (IsPlain-mark s h) (depth-mark s)
-    ∙ mark-back s h
+    ReadsBack-members (Mark_request (switched s)) Mark_op
+    (switch_members (codes "mark") (switched s)) refl
+    (IsPlain-switch (codes "mark") (IsUtf8-tested (codes "mark") refl) s h)
+    (depth-switch (codes "mark") s) (refl, refl, refl)
+    (ap (λ (r : OrFault Switch). r >>= λ x. Ok (Mark_request x)) (switch-back (codes "mark") s h))
 
-activity-back : (s : Switch) → IsSwitch s
-    → request_in (switch_members (codes "activity") (switched s))
-    ≡ Ok (Activity_request (switched s))
-unfolding request_in operation_of check_present check_known members_of switch_request value_at
-    switch_members json_boolean
-activity-back s h =
-    rw (
-      json_name-back _ s.clerk h.clerk,
-      json_number-back _ s.no h.number,
-      json_number-back _ s.doc h.doc,
-    )
-
-IsPlain-activity : (s : Switch) → IsSwitch s
-    → IsPlain (object (switch_members (codes "activity") (switched s)))
-unfolding switch_members
-IsPlain-activity s h = (
-  (IsUtf8-tested (codes "clerk") refl, refl),
-  IsUtf8-name s.clerk h.clerk,
-  (
-    (IsUtf8-tested (codes "doc") refl, refl),
-    IsPlain-whole s.doc h.doc,
-    (
-      (IsUtf8-tested (codes "no") refl, refl),
-      IsPlain-whole s.no h.number,
-      (
-        (IsUtf8-tested (codes "on") refl, refl),
-        tt,
-        ((IsUtf8-tested (codes "op") refl, refl), IsUtf8-tested (codes "activity") refl, tt),
-      ),
-    ),
-  ),
-)
-
-depth-activity : (s : Switch)
-    → depth (object (switch_members (codes "activity") (switched s))) ≤ max_depth
-unfolding switch_members
-depth-activity s = omega arith
-
-activity_text-back : (s : Switch) → IsSwitch s
-    → request_of_text (request_text (Activity_request (switched s)))
-    ≡ Ok (Activity_request (switched s))
-unfolding request_text request_data
+activity_text-back : (s : Switch) → IsSwitch s → ReadsBack (Activity_request (switched s))
+unfolding request_data operation_of check_present check_known members_of switch_members
 activity_text-back s h =
-    text-back (switch_members (codes "activity") (switched s)) (IsPlain-activity s h)
-    (depth-activity s)
-    ∙ activity-back s h
+    ReadsBack-members (Activity_request (switched s)) Activity_op
+    (switch_members (codes "activity") (switched s))
+    refl (IsPlain-switch (codes "activity") (IsUtf8-tested (codes "activity") refl) s h)
+    (depth-switch (codes "activity") s) (refl, refl, refl)
+    (ap (λ (r : OrFault Switch). r >>= λ x. Ok (Activity_request x))
+    (switch-back (codes "activity") s h))
 
 -- ---- `close`, `sweep` and `doc`
 
 close-back : (c : Close) → IsCloseRequest c
-    → request_in (close_members c) ≡ Ok (Close_request c)
-unfolding request_in operation_of check_present check_known members_of close_request value_at
-    close_members
+    → members_of Close_op (close_members c) ≡ Ok (Close_request c)
+unfolding members_of close_request value_at close_members
 close-back c h =
     rw (
       json_name-back _ c.clerk h.clerk,
@@ -185,16 +147,15 @@ depth-close : (c : Close) → depth (object (close_members c)) ≤ max_depth
 unfolding close_members
 depth-close c = omega arith
 
-close_text-back : (c : Close) → IsCloseRequest c
-    → request_of_text (request_text (Close_request c)) ≡ Ok (Close_request c)
-unfolding request_text request_data
+close_text-back : (c : Close) → IsCloseRequest c → ReadsBack (Close_request c)
+unfolding request_data operation_of check_present check_known close_members
 close_text-back c h =
-    text-back (close_members c) (IsPlain-close c h) (depth-close c) ∙ close-back c h
+    ReadsBack-members (Close_request c) Close_op (close_members c) refl (IsPlain-close c h)
+    (depth-close c) (refl, refl, refl) (close-back c h)
 
 sweep-back : (s : Sweep) → IsSweepRequest s
-    → request_in (sweep_members s) ≡ Ok (Sweep_request s)
-unfolding request_in operation_of check_present check_known members_of sweep_request value_at
-    sweep_members
+    → members_of Sweep_op (sweep_members s) ≡ Ok (Sweep_request s)
+unfolding members_of sweep_request value_at sweep_members
 sweep-back s h =
     rw (
       json_name-back _ s.clerk h.clerk,
@@ -222,31 +183,22 @@ depth-sweep : (s : Sweep) → depth (object (sweep_members s)) ≤ max_depth
 unfolding sweep_members
 depth-sweep s = omega arith
 
-sweep_text-back : (s : Sweep) → IsSweepRequest s
-    → request_of_text (request_text (Sweep_request s)) ≡ Ok (Sweep_request s)
-unfolding request_text request_data
+sweep_text-back : (s : Sweep) → IsSweepRequest s → ReadsBack (Sweep_request s)
+unfolding request_data operation_of check_present check_known sweep_members
 sweep_text-back s h =
-    text-back (sweep_members s) (IsPlain-sweep s h) (depth-sweep s) ∙ sweep-back s h
+    ReadsBack-members (Sweep_request s) Sweep_op (sweep_members s) refl (IsPlain-sweep s h)
+    (depth-sweep s) (refl, refl, refl) (sweep-back s h)
 
 -- without a transaction
 abbrev question : DocQuestion → DocQuestion
-question d = record {
-  clerk = d.clerk;
-  doc = d.doc;
-  tx = None;
-}
+question d = record d { tx = None }
 
 question-same : (d : DocQuestion) → IsDocQuestion d → d ≡ question d
-question-same d h = λ i. record {
-  clerk = d.clerk;
-  doc = d.doc;
-  tx = h.no_tx i;
-}
+question-same d h = λ i. record d { tx = h.no_tx i }
 
 doc-back : (d : DocQuestion) → IsDocQuestion d
-    → request_in (doc_members (question d)) ≡ Ok (Doc_request (question d))
-unfolding request_in operation_of check_present check_known members_of doc_question value_at
-    doc_members
+    → members_of Doc_op (doc_members (question d)) ≡ Ok (Doc_request (question d))
+unfolding members_of doc_question value_at doc_members
 doc-back d h =
     rw (
       json_name-back _ d.clerk h.clerk,
@@ -269,30 +221,20 @@ depth-doc : (d : DocQuestion) → depth (object (doc_members (question d))) ≤ 
 unfolding doc_members
 depth-doc d = omega arith
 
-doc_text-back : (d : DocQuestion) → IsDocQuestion d
-    → request_of_text (request_text (Doc_request (question d))) ≡ Ok (Doc_request (question d))
-unfolding request_text request_data
+doc_text-back : (d : DocQuestion) → IsDocQuestion d → ReadsBack (Doc_request (question d))
+unfolding request_data operation_of check_present check_known doc_members
 doc_text-back d h =
-    text-back (doc_members (question d)) (IsPlain-doc d h) (depth-doc d) ∙ doc-back d h
+    ReadsBack-members (Doc_request (question d)) Doc_op (doc_members (question d)) refl
+    (IsPlain-doc d h) (depth-doc d) (refl, refl, refl) (doc-back d h)
 
 -- ---- `balance`
 
 -- a balance without the members that are not built
 abbrev asked : Balance → Option Cut → Balance
-asked b cut = record {
-  clerk = b.clerk;
-  register = b.register;
-  filter = None;
-  group = None;
-  cut =
-      cut;
-  tx = None;
-}
+asked b cut = record b { filter = None; group = None; cut = cut; tx = None }
 
 asked-same : (b : Balance) → IsBalanceRequest b → (cut : Option Cut) → b.cut ≡ cut → b ≡ asked b cut
-asked-same b h cut is = λ i. record {
-  clerk = b.clerk;
-  register = b.register;
+asked-same b h cut is = λ i. record b {
   filter = h.no_filter i;
   group = h.no_group i;
   cut = is i;
@@ -300,9 +242,8 @@ asked-same b h cut is = λ i. record {
 }
 
 balance-back : (b : Balance) → IsBalanceRequest b → (cut : Option Cut) → IfSome cut IsCut
-    → request_in (balance_members (asked b cut)) ≡ Ok (Balance_request (asked b cut))
-unfolding request_in operation_of check_present check_known members_of balance_request
-    value_at balance_members balance_frame
+    → members_of Balance_op (balance_members (asked b cut)) ≡ Ok (Balance_request (asked b cut))
+unfolding members_of balance_request value_at balance_members balance_frame
 balance-back b h None is =
     rw (json_name-back _ b.clerk h.clerk, json_name-back _ b.register h.register)
 balance-back b h (Some cut) is =
@@ -345,16 +286,19 @@ unfolding balance_members balance_frame
 depth-balance b None = omega arith
 depth-balance b (Some cut) = omega arith
 
-balance_text-back : (b : Balance) → IsBalanceRequest b → (cut : Option Cut) → IfSome cut IsCut
-    → request_of_text (request_text (Balance_request (asked b cut)))
-    ≡ Ok (Balance_request (asked b cut))
-unfolding request_text request_data
-balance_text-back b h cut is =
-    text-back (balance_members (asked b cut)) (IsPlain-balance b h cut is) (depth-balance b cut)
-    ∙ balance-back b h cut is
+balance-asks : (b : Balance) (cut : Option Cut)
+    → AsksFor Balance_op (balance_members (asked b cut))
+unfolding operation_of check_present check_known balance_members balance_frame
+balance-asks b None = (refl, refl, refl)
+balance-asks b (Some cut) = (refl, refl, refl)
 
-abbrev ReadsBack : Request → Type 0
-ReadsBack r = request_of_text (request_text r) ≡ Ok r
+balance_text-back : (b : Balance) → IsBalanceRequest b → (cut : Option Cut) → IfSome cut IsCut
+    → ReadsBack (Balance_request (asked b cut))
+unfolding request_data
+balance_text-back b h cut is =
+    ReadsBack-members (Balance_request (asked b cut)) Balance_op (balance_members (asked b cut))
+    refl (IsPlain-balance b h cut is) (depth-balance b cut) (balance-asks b cut)
+    (balance-back b h cut is)
 
 -- the canonical text of a request is read as the request
 pub request-back : (r : Request) → IsRequest r → request (Text (request_text r)) ≡ Ok r
@@ -374,3 +318,10 @@ request-back (Balance_request b) h =
 request-back (Doc_request d) h =
     subst (λ (x : DocQuestion). ReadsBack (Doc_request x)) (sym (question-same d h))
     (doc_text-back d h)
+request-back (Post_request (Content w)) h = post_text-back w h
+request-back (Post_request (Standing s)) h =
+    subst (λ (x : StandingDocument). ReadsBack (Post_request (Standing x)))
+    (sym (standing-same s h)) (post_standing-back s h)
+request-back (Unpost_request s) h =
+    subst (λ (x : StandingDocument). ReadsBack (Unpost_request x)) (sym (standing-same s h))
+    (unpost_text-back s h)

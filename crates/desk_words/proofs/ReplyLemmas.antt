@@ -1,7 +1,6 @@
 -- Sums have their texts, and a reply has no float, so that its text is known.
 use Rattle.std.proofs.Common.{◌≡◌, ℕ, Option, None, Some, ℤ, false, List, [], ◌∷◌, ◌++◌, map}
 use Rattle.std.proofs.Common.{◌⊎◌, ⊎_elim, refl, sym, ap, ◌∙◌, append-nil}
-use Rattle.std.proofs.lemmas.Bool.{or_parts}
 use Rattle.serde_json.specs.Data.{Data, string}
 use Rattle.serde_json.specs.View.{items_of}
 use Rattle.serde_json.specs.Written.{has_float, items_have_float}
@@ -10,8 +9,6 @@ use Rattle.desk_words.specs.declared.fault.WordFault.{WordFault}
 use Rattle.desk_words.specs.declared.fault.WordFault.TheVariants.{TooLong, NotJson, NotObject}
 use Rattle.desk_words.specs.declared.fault.WordFault.TheVariants.{UnknownOp, Missing, UnknownMember}
 use Rattle.desk_words.specs.declared.fault.WordFault.TheVariants.{BadMember, Memory}
-use Rattle.desk_words.specs.declared.request.Request.TheVariants.{Manual}
-use Rattle.desk_words.specs.declared.request.SetText.{SetText}
 use Rattle.desk_words.specs.declared.reply.Reply.{Reply}
 use Rattle.desk_words.specs.declared.reply.Reply.TheVariants.{Done, Refused}
 use Rattle.desk_words.specs.declared.reply.Answer.{Answer}
@@ -24,14 +21,13 @@ use Rattle.desk_words.specs.declared.reply.Refusal.{Refusal}
 use Rattle.desk_words.specs.declared.reply.Refusal.TheVariants.{BadLine, UnknownClerk, NotAllowed}
 use Rattle.desk_words.specs.declared.reply.Refusal.TheVariants.{Stale, NumberReused, UnknownDoc}
 use Rattle.desk_words.specs.declared.reply.Refusal.TheVariants.{WrongState, BadField, KeyTaken}
-use Rattle.desk_words.specs.declared.reply.Refusal.TheVariants.{Closed, Limit, Rule}
+use Rattle.desk_words.specs.declared.reply.Refusal.TheVariants.{Closed, Limit, Rule, Control}
 use Rattle.reg_base.specs.declared.fault.PostFault.{PostFault}
 use Rattle.reg_base.specs.declared.fault.PostFault.TheVariants.{Broken, Shortage, Overflow, Entry}
 use Rattle.reg_base.specs.declared.fault.PostFault.TheVariants.{TooManyRecords, Negative}
 use Rattle.desk_words.proofs.JsonLemmas.{has_float-texts_data, has_float-fields_data}
 use Rattle.desk_words.proofs.JsonLemmas.{has_float-lines_data}
-use Rattle.desk_words.proofs.RequestLemmas.{has_float-request_data}
-use Rattle.desk_words.specs.RequestTexts.{sets_data, manual_frame, manual_members, request_data}
+use Rattle.desk_words.proofs.RequestLemmas.{has_float-sets_data}
 use Rattle.desk_words.specs.ReplyTexts.{sum_texts, row_data, rows_data, document_data}
 use Rattle.desk_words.specs.ReplyTexts.{acknowledgement_data, key_data, shown_data, answer_data}
 use Rattle.desk_words.specs.ReplyTexts.{reply_data}
@@ -77,22 +73,6 @@ has_float-key_data : (key : Option (List ℕ)) → has_float (key_data key) ≡ 
 has_float-key_data None = refl
 has_float-key_data (Some key) = refl
 
--- sets have none: they are as in a request
-has_float-sets : (sets : List SetText) → has_float (sets_data sets) ≡ false
-unfolding request_data manual_members manual_frame
-has_float-sets sets =
-    (or_parts (has_float (sets_data sets)) false
-    (has_float-request_data (Manual (record {
-      clerk = [];
-      no = 0;
-      doc = None;
-      key = None;
-      date = 0;
-      sets = sets;
-      comment = None;
-      tx = None;
-    })))).0
-
 -- a document that is shown has none
 has_float-shown_data : (shown : ShownDocument) → has_float (shown_data shown) ≡ false
 unfolding shown_data
@@ -101,7 +81,7 @@ has_float-shown_data shown =
       has_float-fields_data shown.head,
       has_float-key_data shown.key,
       has_float-lines_data shown.lines,
-      has_float-sets shown.sets,
+      has_float-sets_data shown.sets,
     )
 
 -- an answer has none
@@ -150,6 +130,7 @@ has_float-refusal_data (KeyTaken doc) = refl
 has_float-refusal_data (Closed date) = refl
 has_float-refusal_data (Limit which limit) = refl
 has_float-refusal_data (Rule fault scale) = has_float-rule scale fault
+has_float-refusal_data (Control register values balance scale) = rw has_float-texts_data
 
 -- a reply has none
 pub has_float-reply_data : (reply : Reply) → has_float (reply_data reply) ≡ false

@@ -15,6 +15,10 @@ use Rattle.desk_words.specs.declared.request.Request.TheVariants.{Close as Close
 use Rattle.desk_words.specs.declared.request.Request.TheVariants.{Sweep as Sweep_request}
 use Rattle.desk_words.specs.declared.request.Request.TheVariants.{Balance as Balance_request}
 use Rattle.desk_words.specs.declared.request.Request.TheVariants.{Doc as Doc_request}
+use Rattle.desk_words.specs.declared.request.Request.TheVariants.{Post as Post_request}
+use Rattle.desk_words.specs.declared.request.Request.TheVariants.{Unpost as Unpost_request}
+use Rattle.desk_words.specs.declared.request.Post.TheVariants.{Content, Standing}
+use Rattle.desk_words.specs.declared.request.StandingDocument.{StandingDocument}
 use Rattle.desk_words.specs.declared.request.Write.{Write}
 use Rattle.desk_words.specs.declared.request.Switch.{Switch}
 use Rattle.desk_words.specs.declared.request.Manual.{Manual}
@@ -27,7 +31,8 @@ use Rattle.desk_words.specs.declared.request.RecordText.TheVariants.{Register, L
 use Rattle.desk_words.specs.JsonValues.{whole, texts_data, put_if}
 use Rattle.desk_words.specs.RequestTexts.{side_data, register_data, ledger_data, record_data}
 use Rattle.desk_words.specs.RequestTexts.{set_data, sets_data, put_filters, filters_data}
-use Rattle.desk_words.specs.RequestTexts.{write_frame, write_members, switch_members, manual_frame}
+use Rattle.desk_words.specs.RequestTexts.{put_optional, write_frame, write_members}
+use Rattle.desk_words.specs.RequestTexts.{standing_members, switch_members, manual_frame}
 use Rattle.desk_words.specs.RequestTexts.{manual_members, close_members, sweep_members}
 use Rattle.desk_words.specs.RequestTexts.{balance_frame, balance_members, doc_members, request_data}
 use Rattle.desk_words.proofs.JsonLemmas.{items_have_float-each, has_float-texts_data}
@@ -56,7 +61,8 @@ has_float-set_data : (set : SetText) → has_float (set_data set) ≡ false
 unfolding set_data
 has_float-set_data set = rw (items_have_float-each record_data has_float-record_data set.records)
 
-has_float-sets_data : (sets : List SetText) → has_float (sets_data sets) ≡ false
+-- sets have none
+pub has_float-sets_data : (sets : List SetText) → has_float (sets_data sets) ≡ false
 unfolding sets_data
 has_float-sets_data sets = items_have_float-each set_data has_float-set_data sets
 
@@ -68,14 +74,27 @@ members_have_float-filters ms (filter ∷ filters) h =
     (members_have_float-put filter.name (texts_data filter.values) ms
     (has_float-texts_data filter.values) h)
 
-members_have_float-write : (w : Write) → members_have_float (write_members w) ≡ false
+members_have_float-optional : (doc : Option ℕ) (key comment : Option (List ℕ)) (tx : Option ℕ)
+    → (frame : Members) → members_have_float frame ≡ false
+    → members_have_float (put_optional doc key comment tx frame) ≡ false
+members_have_float-optional doc key comment tx frame h =
+    members_have_float-put_if (codes "tx") whole tx _ (λ n. refl)
+    (members_have_float-put_if (codes "comment") string comment _ (λ s. refl)
+    (members_have_float-put_if (codes "key") string key _ (λ s. refl)
+    (members_have_float-put_if (codes "doc") whole doc _ (λ n. refl) h)))
+
+members_have_float-write : (op : List ℕ) (w : Write)
+    → members_have_float (write_members op w) ≡ false
 unfolding write_members write_frame
-members_have_float-write w =
-    members_have_float-put_if (codes "tx") whole w.tx _ (λ n. refl)
-    (members_have_float-put_if (codes "comment") string w.comment _ (λ s. refl)
-    (members_have_float-put_if (codes "key") string w.key _ (λ s. refl)
-    (members_have_float-put_if (codes "doc") whole w.doc _ (λ n. refl)
-    (rw (has_float-fields_data w.head, has_float-lines_data w.lines)))))
+members_have_float-write op w =
+    members_have_float-optional w.doc w.key w.comment w.tx (write_frame op w)
+    (rw (has_float-fields_data w.head, has_float-lines_data w.lines))
+
+members_have_float-standing : (op : List ℕ) (s : StandingDocument)
+    → members_have_float (standing_members op s) ≡ false
+unfolding standing_members
+members_have_float-standing op s =
+    members_have_float-put_if (codes "tx") whole s.tx _ (λ n. refl) refl
 
 members_have_float-switch : (op : List ℕ) (s : Switch)
     → members_have_float (switch_members op s) ≡ false
@@ -90,11 +109,8 @@ members_have_float-doc d = members_have_float-put_if (codes "tx") whole d.tx _ (
 members_have_float-manual : (m : Manual) → members_have_float (manual_members m) ≡ false
 unfolding manual_members manual_frame
 members_have_float-manual m =
-    members_have_float-put_if (codes "tx") whole m.tx _ (λ n. refl)
-    (members_have_float-put_if (codes "comment") string m.comment _ (λ s. refl)
-    (members_have_float-put_if (codes "key") string m.key _ (λ s. refl)
-    (members_have_float-put_if (codes "doc") whole m.doc _ (λ n. refl)
-    (rw (has_float-sets_data m.sets)))))
+    members_have_float-optional m.doc m.key m.comment m.tx (manual_frame m)
+    (rw (has_float-sets_data m.sets))
 
 members_have_float-balance : (b : Balance) → members_have_float (balance_members b) ≡ false
 unfolding balance_members balance_frame
@@ -109,7 +125,7 @@ members_have_float-balance b =
 -- a request has none
 pub has_float-request_data : (request : Request) → has_float (request_data request) ≡ false
 unfolding request_data close_members sweep_members
-has_float-request_data (Write_request w) = members_have_float-write w
+has_float-request_data (Write_request w) = members_have_float-write (codes "write") w
 has_float-request_data (Mark_request s) = members_have_float-switch (codes "mark") s
 has_float-request_data (Manual_request m) = members_have_float-manual m
 has_float-request_data (Activity_request s) = members_have_float-switch (codes "activity") s
@@ -117,3 +133,6 @@ has_float-request_data (Close_request c) = refl
 has_float-request_data (Sweep_request s) = refl
 has_float-request_data (Balance_request b) = members_have_float-balance b
 has_float-request_data (Doc_request d) = members_have_float-doc d
+has_float-request_data (Post_request (Content w)) = members_have_float-write (codes "post") w
+has_float-request_data (Post_request (Standing s)) = members_have_float-standing (codes "post") s
+has_float-request_data (Unpost_request s) = members_have_float-standing (codes "unpost") s

@@ -2,14 +2,15 @@
 use Rattle.std.proofs.Common.{◌≡◌, ℕ, ◌||◌, true, Option, Some, None, IfSome, List, Result, Ok, Err}
 use Rattle.std.proofs.Common.{IfOk, refl, subst}
 use Rattle.std.specs.List.{AllByRecursion}
-use Rattle.std.specs.Prelude.{is_none}
+use Rattle.std.specs.Prelude.{is_none, option_map}
 use Rattle.serde_json.specs.Data.{Data, null, boolean, number, string, array, object as of_members}
 use Rattle.serde_json.specs.Data.{Members}
 use Rattle.serde_json.specs.Find.{as_object}
 use Rattle.json_laws.specs.Plain.{HasUtf8}
 use Rattle.reg_base.specs.Cuts.{IsCut}
-use Rattle.reg_base.specs.Results.{some_or, Gives}
+use Rattle.reg_base.specs.Results.{◌>>=◌, some_or, none_or, Gives}
 use Rattle.reg_base.proofs.ForAbove.{IfOk-then, IfOk-next, IfOk-unless}
+use Rattle.desk_words.specs.declared.fault.Member.{Member}
 use Rattle.desk_words.specs.declared.fault.Member.TheVariants.{Clerk, No, Key, Kind, Date, Head}
 use Rattle.desk_words.specs.declared.fault.Member.TheVariants.{Lines, On, Sets, Comment}
 use Rattle.desk_words.specs.declared.fault.Member.TheVariants.{Doc as Doc_word}
@@ -26,6 +27,8 @@ use Rattle.desk_words.specs.declared.members.Operation.TheVariants.{Close as Clo
 use Rattle.desk_words.specs.declared.members.Operation.TheVariants.{Sweep as Sweep_op}
 use Rattle.desk_words.specs.declared.members.Operation.TheVariants.{Balance as Balance_op}
 use Rattle.desk_words.specs.declared.members.Operation.TheVariants.{Doc as Doc_op}
+use Rattle.desk_words.specs.declared.members.Operation.TheVariants.{Post as Post_op, PostStanding}
+use Rattle.desk_words.specs.declared.members.Operation.TheVariants.{Unpost as Unpost_op}
 use Rattle.desk_words.specs.declared.request.Request.{Request}
 use Rattle.desk_words.specs.declared.request.Request.TheVariants.{Write as Write_request}
 use Rattle.desk_words.specs.declared.request.Request.TheVariants.{Mark as Mark_request}
@@ -35,25 +38,49 @@ use Rattle.desk_words.specs.declared.request.Request.TheVariants.{Close as Close
 use Rattle.desk_words.specs.declared.request.Request.TheVariants.{Sweep as Sweep_request}
 use Rattle.desk_words.specs.declared.request.Request.TheVariants.{Balance as Balance_request}
 use Rattle.desk_words.specs.declared.request.Request.TheVariants.{Doc as Doc_request}
-use Rattle.desk_words.specs.Shapes.{required_at, optional_at, json_name, json_code, json_number}
-use Rattle.desk_words.specs.Shapes.{json_date, json_cut, json_boolean, json_comment}
+use Rattle.desk_words.specs.declared.request.Request.TheVariants.{Post as Post_request}
+use Rattle.desk_words.specs.declared.request.Request.TheVariants.{Unpost as Unpost_request}
+use Rattle.desk_words.specs.declared.request.Post.TheVariants.{Content, Standing}
+use Rattle.desk_words.specs.Members.{content_members, first_present}
+use Rattle.desk_words.specs.Shapes.{OrFault, required_at, optional_at, json_name, json_code}
+use Rattle.desk_words.specs.Shapes.{json_number, json_date, json_cut, json_boolean, json_comment}
 use Rattle.desk_words.specs.Sets.{json_sets}
 use Rattle.desk_words.specs.Fields.{json_fields, json_lines}
 use Rattle.desk_words.specs.ReadRequests.{key_beside, write_request, switch_request}
 use Rattle.desk_words.specs.ReadRequests.{manual_request, close_request, sweep_request}
-use Rattle.desk_words.specs.ReadRequests.{balance_request, doc_question}
+use Rattle.desk_words.specs.ReadRequests.{balance_request, doc_question, standing_document}
+use Rattle.desk_words.specs.ReadRequests.{standing_post}
 use Rattle.desk_words.specs.Reading.{json_document, operation_of, check_present, check_known}
 use Rattle.desk_words.specs.Reading.{members_of, request_in}
 use Rattle.desk_words.specs.WellFormed.{IsName, IsCode, IsNumber, IsDate, IsComment, AreFields}
 use Rattle.desk_words.specs.WellFormed.{IsSetText, IsWriteRequest, IsSwitch, IsManualRequest}
 use Rattle.desk_words.specs.WellFormed.{IsCloseRequest, IsSweepRequest, IsBalanceRequest}
-use Rattle.desk_words.specs.WellFormed.{IsDocQuestion, IsRequest}
+use Rattle.desk_words.specs.WellFormed.{IsDocQuestion, IsStandingDocument, IsRequest}
 use Rattle.desk_words.proofs.OrderLemmas.{NamesAscend, json_document-ascends}
 use Rattle.desk_words.proofs.ReadValues.{IsRead, AreRead, IsIf, required_at-Is, optional_at-Is}
 use Rattle.desk_words.proofs.ShapeLemmas.{json_name-IsName, json_code-IsCode, json_date-IsDate}
 use Rattle.desk_words.proofs.ShapeLemmas.{json_cut-IsCut, json_number-IsNumber}
 use Rattle.desk_words.proofs.ShapeLemmas.{json_comment-IsComment, json_sets-Is, json_fields-Are}
 use Rattle.desk_words.proofs.ShapeLemmas.{json_lines-Are}
+
+-- ---- how each member is read
+
+-- a member that is asked for, whose shape gives what has P, and then what has Q
+asked : {X Y : Type 0} (P : X → Type 0) (Q : Y → Type 0) (shape : Member → Data → OrFault X)
+    → ((m : Member) (d : Data) → IsRead d → IfOk (shape m d) P)
+    → (m : Member) (object : Members) → AreRead object → (next : X → OrFault Y)
+    → ((x : X) → P x → IfOk (next x) Q) → IfOk (required_at shape m object >>= next) Q
+asked P Q shape is m object h next then_is =
+    IfOk-then P Q (required_at shape m object) next (required_at-Is P shape is m object h) then_is
+
+-- the same of a member that may be absent
+allowed : {X Y : Type 0} (P : X → Type 0) (Q : Y → Type 0) (shape : Member → Data → OrFault X)
+    → ((m : Member) (d : Data) → IsRead d → IfOk (shape m d) P)
+    → (m : Member) (object : Members) → AreRead object → (next : Option X → OrFault Y)
+    → ((o : Option X) → IsIf P o → IfOk (next o) Q) → IfOk (optional_at shape m object >>= next) Q
+allowed P Q shape is m object h next then_is =
+    IfOk-then (IsIf P) Q (optional_at shape m object) next
+    (optional_at-Is P shape is m object h) then_is
 
 -- ---- a document's number and its key
 
@@ -70,8 +97,7 @@ key_beside-Is : (doc : Option ℕ) (object : Members) → AreRead object
     → IfOk (key_beside doc object) (IsKeyBeside doc)
 unfolding key_beside
 key_beside-Is doc object h =
-    IfOk-then (IsIf IsCode) (IsKeyBeside doc) (optional_at json_code Key object) _
-    (optional_at-Is IsCode json_code json_code-IsCode Key object h) (λ key k.
+    allowed IsCode (IsKeyBeside doc) json_code json_code-IsCode Key object h _ (λ key k.
     IfOk-unless (IsKeyBeside doc) (is_none doc || is_none key) (BadMember Key) (λ _. Ok key)
     (λ is. (k, stands_alone doc key is)))
 
@@ -80,25 +106,17 @@ key_beside-Is doc object h =
 write_request-Is : (object : Members) → AreRead object → IfOk (write_request object) IsWriteRequest
 unfolding write_request
 write_request-Is object h =
-    IfOk-then IsName IsWriteRequest (required_at json_name Clerk object) _
-    (required_at-Is IsName json_name json_name-IsName Clerk object h) (λ clerk c.
-    IfOk-then IsNumber IsWriteRequest (required_at json_number No object) _
-    (required_at-Is IsNumber json_number json_number-IsNumber No object h) (λ nr n.
-    IfOk-then (IsIf IsNumber) IsWriteRequest (optional_at json_number Doc_word object) _
-    (optional_at-Is IsNumber json_number json_number-IsNumber Doc_word object h) (λ doc d.
+    asked IsName IsWriteRequest json_name json_name-IsName Clerk object h _ (λ clerk c.
+    asked IsNumber IsWriteRequest json_number json_number-IsNumber No object h _ (λ nr n.
+    allowed IsNumber IsWriteRequest json_number json_number-IsNumber Doc_word object h _ (λ doc d.
     IfOk-then (IsKeyBeside doc) IsWriteRequest (key_beside doc object) _
     (key_beside-Is doc object h) (λ key k.
-    IfOk-then IsName IsWriteRequest (required_at json_name Kind object) _
-    (required_at-Is IsName json_name json_name-IsName Kind object h) (λ kind l.
-    IfOk-then IsDate IsWriteRequest (required_at json_date Date object) _
-    (required_at-Is IsDate json_date json_date-IsDate Date object h) (λ date t.
-    IfOk-then AreFields IsWriteRequest (required_at json_fields Head object) _
-    (required_at-Is AreFields json_fields json_fields-Are Head object h) (λ head f.
-    IfOk-then (AllByRecursion AreFields) IsWriteRequest (required_at json_lines Lines object) _
-    (required_at-Is (AllByRecursion AreFields) json_lines json_lines-Are Lines object h)
+    asked IsName IsWriteRequest json_name json_name-IsName Kind object h _ (λ kind l.
+    asked IsDate IsWriteRequest json_date json_date-IsDate Date object h _ (λ date t.
+    asked AreFields IsWriteRequest json_fields json_fields-Are Head object h _ (λ head f.
+    asked (AllByRecursion AreFields) IsWriteRequest json_lines json_lines-Are Lines object h _
     (λ lines fs.
-    IfOk-then (IsIf IsComment) IsWriteRequest (optional_at json_comment Comment object) _
-    (optional_at-Is IsComment json_comment json_comment-IsComment Comment object h)
+    allowed IsComment IsWriteRequest json_comment json_comment-IsComment Comment object h _
     (λ comment m. record {
       clerk = c;
       number = n;
@@ -113,15 +131,36 @@ write_request-Is object h =
       no_tx = refl;
     })))))))))
 
+standing_document-Is : (object : Members) → AreRead object
+    → IfOk (standing_document object) IsStandingDocument
+unfolding standing_document
+standing_document-Is object h =
+    asked IsName IsStandingDocument json_name json_name-IsName Clerk object h _ (λ clerk c.
+    asked IsNumber IsStandingDocument json_number json_number-IsNumber No object h _ (λ nr n.
+    asked IsNumber IsStandingDocument json_number json_number-IsNumber Doc_word object h _ (λ doc d.
+    record {
+      clerk = c;
+      number = n;
+      doc = d;
+      no_tx = refl;
+    })))
+
+standing_post-Is : (object : Members) → AreRead object
+    → IfOk (standing_post object) IsStandingDocument
+unfolding standing_post
+standing_post-Is object h =
+    IfOk-then IsStandingDocument IsStandingDocument (standing_document object) _
+    (standing_document-Is object h) (λ standing s.
+    IfOk-next IsStandingDocument
+    (none_or (option_map BadMember (first_present content_members object)))
+    (λ _. Ok standing) (λ _. s))
+
 switch_request-Is : (object : Members) → AreRead object → IfOk (switch_request object) IsSwitch
 unfolding switch_request
 switch_request-Is object h =
-    IfOk-then IsName IsSwitch (required_at json_name Clerk object) _
-    (required_at-Is IsName json_name json_name-IsName Clerk object h) (λ clerk c.
-    IfOk-then IsNumber IsSwitch (required_at json_number No object) _
-    (required_at-Is IsNumber json_number json_number-IsNumber No object h) (λ nr n.
-    IfOk-then IsNumber IsSwitch (required_at json_number Doc_word object) _
-    (required_at-Is IsNumber json_number json_number-IsNumber Doc_word object h) (λ doc d.
+    asked IsName IsSwitch json_name json_name-IsName Clerk object h _ (λ clerk c.
+    asked IsNumber IsSwitch json_number json_number-IsNumber No object h _ (λ nr n.
+    asked IsNumber IsSwitch json_number json_number-IsNumber Doc_word object h _ (λ doc d.
     IfOk-next IsSwitch (required_at json_boolean On object) _ (λ on. record {
       clerk = c;
       number = n;
@@ -133,20 +172,15 @@ manual_request-Is : (object : Members) → AreRead object
     → IfOk (manual_request object) IsManualRequest
 unfolding manual_request
 manual_request-Is object h =
-    IfOk-then IsName IsManualRequest (required_at json_name Clerk object) _
-    (required_at-Is IsName json_name json_name-IsName Clerk object h) (λ clerk c.
-    IfOk-then IsNumber IsManualRequest (required_at json_number No object) _
-    (required_at-Is IsNumber json_number json_number-IsNumber No object h) (λ nr n.
-    IfOk-then (IsIf IsNumber) IsManualRequest (optional_at json_number Doc_word object) _
-    (optional_at-Is IsNumber json_number json_number-IsNumber Doc_word object h) (λ doc d.
+    asked IsName IsManualRequest json_name json_name-IsName Clerk object h _ (λ clerk c.
+    asked IsNumber IsManualRequest json_number json_number-IsNumber No object h _ (λ nr n.
+    allowed IsNumber IsManualRequest json_number json_number-IsNumber Doc_word object h _ (λ doc d.
     IfOk-then (IsKeyBeside doc) IsManualRequest (key_beside doc object) _
     (key_beside-Is doc object h) (λ key k.
-    IfOk-then IsDate IsManualRequest (required_at json_date Date object) _
-    (required_at-Is IsDate json_date json_date-IsDate Date object h) (λ date t.
-    IfOk-then (AllByRecursion IsSetText) IsManualRequest (required_at json_sets Sets object) _
-    (required_at-Is (AllByRecursion IsSetText) json_sets json_sets-Is Sets object h) (λ sets s.
-    IfOk-then (IsIf IsComment) IsManualRequest (optional_at json_comment Comment object) _
-    (optional_at-Is IsComment json_comment json_comment-IsComment Comment object h)
+    asked IsDate IsManualRequest json_date json_date-IsDate Date object h _ (λ date t.
+    asked (AllByRecursion IsSetText) IsManualRequest json_sets json_sets-Is Sets object h _
+    (λ sets s.
+    allowed IsComment IsManualRequest json_comment json_comment-IsComment Comment object h _
     (λ comment m. record {
       clerk = c;
       number = n;
@@ -162,12 +196,9 @@ manual_request-Is object h =
 close_request-Is : (object : Members) → AreRead object → IfOk (close_request object) IsCloseRequest
 unfolding close_request
 close_request-Is object h =
-    IfOk-then IsName IsCloseRequest (required_at json_name Clerk object) _
-    (required_at-Is IsName json_name json_name-IsName Clerk object h) (λ clerk c.
-    IfOk-then IsNumber IsCloseRequest (required_at json_number No object) _
-    (required_at-Is IsNumber json_number json_number-IsNumber No object h) (λ nr n.
-    IfOk-then IsDate IsCloseRequest (required_at json_date Date object) _
-    (required_at-Is IsDate json_date json_date-IsDate Date object h) (λ date t. record {
+    asked IsName IsCloseRequest json_name json_name-IsName Clerk object h _ (λ clerk c.
+    asked IsNumber IsCloseRequest json_number json_number-IsNumber No object h _ (λ nr n.
+    asked IsDate IsCloseRequest json_date json_date-IsDate Date object h _ (λ date t. record {
       clerk = c;
       number = n;
       date = t;
@@ -176,12 +207,10 @@ close_request-Is object h =
 sweep_request-Is : (object : Members) → AreRead object → IfOk (sweep_request object) IsSweepRequest
 unfolding sweep_request
 sweep_request-Is object h =
-    IfOk-then IsName IsSweepRequest (required_at json_name Clerk object) _
-    (required_at-Is IsName json_name json_name-IsName Clerk object h) (λ clerk c.
-    IfOk-then IsNumber IsSweepRequest (required_at json_number No object) _
-    (required_at-Is IsNumber json_number json_number-IsNumber No object h) (λ nr n.
-    IfOk-then IsNumber IsSweepRequest (required_at json_number Doc_word object) _
-    (required_at-Is IsNumber json_number json_number-IsNumber Doc_word object h) (λ doc d. record {
+    asked IsName IsSweepRequest json_name json_name-IsName Clerk object h _ (λ clerk c.
+    asked IsNumber IsSweepRequest json_number json_number-IsNumber No object h _ (λ nr n.
+    asked IsNumber IsSweepRequest json_number json_number-IsNumber Doc_word object h _ (λ doc d.
+    record {
       clerk = c;
       number = n;
       doc = d;
@@ -191,12 +220,10 @@ balance_request-Is : (object : Members) → AreRead object
     → IfOk (balance_request object) IsBalanceRequest
 unfolding balance_request
 balance_request-Is object h =
-    IfOk-then IsName IsBalanceRequest (required_at json_name Clerk object) _
-    (required_at-Is IsName json_name json_name-IsName Clerk object h) (λ clerk c.
-    IfOk-then IsName IsBalanceRequest (required_at json_name Register_word object) _
-    (required_at-Is IsName json_name json_name-IsName Register_word object h) (λ register r.
-    IfOk-then (IsIf IsCut) IsBalanceRequest (optional_at json_cut Cut_word object) _
-    (optional_at-Is IsCut json_cut json_cut-IsCut Cut_word object h) (λ cut u. record {
+    asked IsName IsBalanceRequest json_name json_name-IsName Clerk object h _ (λ clerk c.
+    asked IsName IsBalanceRequest json_name json_name-IsName Register_word object h _
+    (λ register r.
+    allowed IsCut IsBalanceRequest json_cut json_cut-IsCut Cut_word object h _ (λ cut u. record {
       clerk = c;
       register = r;
       cut = u;
@@ -208,10 +235,9 @@ balance_request-Is object h =
 doc_question-Is : (object : Members) → AreRead object → IfOk (doc_question object) IsDocQuestion
 unfolding doc_question
 doc_question-Is object h =
-    IfOk-then IsName IsDocQuestion (required_at json_name Clerk object) _
-    (required_at-Is IsName json_name json_name-IsName Clerk object h) (λ clerk c.
-    IfOk-then IsNumber IsDocQuestion (required_at json_number Doc_word object) _
-    (required_at-Is IsNumber json_number json_number-IsNumber Doc_word object h) (λ doc d. record {
+    asked IsName IsDocQuestion json_name json_name-IsName Clerk object h _ (λ clerk c.
+    asked IsNumber IsDocQuestion json_number json_number-IsNumber Doc_word object h _ (λ doc d.
+    record {
       clerk = c;
       doc = d;
       no_tx = refl;
@@ -244,6 +270,15 @@ members_of-Is Balance_op object h =
 members_of-Is Doc_op object h =
     IfOk-then IsDocQuestion IsRequest (doc_question object) (λ r. Ok (Doc_request r))
     (doc_question-Is object h) (λ r is. is)
+members_of-Is Post_op object h =
+    IfOk-then IsWriteRequest IsRequest (write_request object) (λ r. Ok (Post_request (Content r)))
+    (write_request-Is object h) (λ r is. is)
+members_of-Is PostStanding object h =
+    IfOk-then IsStandingDocument IsRequest (standing_post object)
+    (λ r. Ok (Post_request (Standing r))) (standing_post-Is object h) (λ r is. is)
+members_of-Is Unpost_op object h =
+    IfOk-then IsStandingDocument IsRequest (standing_document object)
+    (λ r. Ok (Unpost_request r)) (standing_document-Is object h) (λ r is. is)
 
 request_in-Is : (object : Members) → AreRead object → IfOk (request_in object) IsRequest
 unfolding request_in

@@ -90,7 +90,7 @@ abbrev pub filters_data : List FilterText → Data
 filters_data filters = object (put_filters no_members filters)
 
 -- members, with those among them that a document may have
-unfoldable pub put_optional : Option ℕ → Option (List ℕ) → Option (List ℕ) → Option ℕ → Members
+abbrev pub put_optional : Option ℕ → Option (List ℕ) → Option (List ℕ) → Option ℕ → Members
     → Members
 put_optional doc key comment tx frame =
     put_if (codes "tx") (option_map whole tx)

@@ -30,7 +30,6 @@ pub(crate) fn write_members(alloc: Global, op: &str, write: &Write) -> Result<Ob
 }
 
 // Puts what a document may have among the members.
-#[tactic(auto, unfolding(crate::specs::RequestTexts::put_optional))]
 fn put_optional(
     alloc: Global,
     members: &mut Object,

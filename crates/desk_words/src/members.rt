@@ -2,8 +2,9 @@
 ghost use Rattle.std.specs.Prelude.{◌≡◌, option_map};
 ghost use Rattle.serde_json.specs.View.{members_view};
 ghost use Rattle.desk_words.specs.Members.{posting, operation_named, required_members};
-ghost use Rattle.desk_words.specs.Members.{other_members, has_member, first_missing, first_present};
-ghost use Rattle.desk_words.specs.Members.{is_name_of, first_unknown_member};
+ghost use Rattle.desk_words.specs.Members.{content_members, other_members, has_member};
+ghost use Rattle.desk_words.specs.Members.{first_missing, first_present, is_name_of};
+ghost use Rattle.desk_words.specs.Members.{first_unknown_member};
 
 use crate::fault::Member;
 use crate::parsed::{Object, member};
@@ -94,7 +95,7 @@ impl Operation {
     }
 
     // The members that the operation knows besides.
-    pub(crate) fn other_members(self) -> &'static [Member]
+    fn other_members(self) -> &'static [Member]
         ensures { result.now ≡ other_members self }
     {
         match self {
@@ -102,16 +103,23 @@ impl Operation {
                 &[Member::Doc, Member::Key, Member::Comment]
             }
             Operation::Balance => &[Member::Cut],
-            Operation::PostStanding => &[
-                Member::Key,
-                Member::Date,
-                Member::Head,
-                Member::Lines,
-                Member::Comment,
-            ],
+            Operation::PostStanding => content_members(),
             _ => &[],
         }
     }
+}
+
+// The members of a document's content, without its type.
+pub(crate) fn content_members() -> &'static [Member]
+    ensures { result.now ≡ content_members }
+{
+    &[
+        Member::Key,
+        Member::Date,
+        Member::Head,
+        Member::Lines,
+        Member::Comment,
+    ]
 }
 
 // Whether an object has the member, whatever stands there.

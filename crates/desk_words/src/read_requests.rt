@@ -8,7 +8,7 @@ ghost use Rattle.desk_words.specs.ReadRequests.{balance_request, doc_question, s
 ghost use Rattle.desk_words.specs.ReadRequests.{standing_post};
 
 use crate::fault::{Member, WordFault};
-use crate::members::{Operation, first_present};
+use crate::members::{content_members, first_present};
 use crate::parsed::Object;
 use crate::request::{Balance, Close, DocQuestion, Manual, StandingDocument, Sweep, Switch, Write};
 use crate::shapes::{read_member, read_optional};
@@ -81,7 +81,7 @@ pub(crate) fn standing_post(alloc: Global, object: &Object) -> Result<StandingDo
     ensures { Gives Memory result (standing_post (members_view object.now.entries)) }
 {
     let standing = standing_document(alloc, object)?;
-    match first_present(Operation::PostStanding.other_members(), object) {
+    match first_present(content_members(), object) {
         Some(member) => Err(WordFault::BadMember { member }),
         None => Ok(standing),
     }

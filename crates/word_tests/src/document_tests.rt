@@ -149,7 +149,7 @@ const LINES: [(&str, &str); 22] = [
         "7,\"member\":\"doc\"",
     ),
     (
-        "{\"op\":\"unpost\",\"clerk\":\"anna\",\"no\":1,\"doc\":1}",
+        "{\"op\":\"Unpost\",\"clerk\":\"anna\",\"no\":1,\"doc\":1}",
         "4",
     ),
 ];
@@ -164,7 +164,7 @@ const WRITE: &str = "{\"op\":\"write\",\"clerk\":\"anna\",\"no\":1,\"kind\":\"re
     \"date\":\"2024-01-10\",\"head\":{},\"lines\":[],";
 
 // Members of new content, each with what is told of it.
-const WRITES: [(&str, &str); 16] = [
+pub(crate) const WRITES: [(&str, &str); 17] = [
     ("\"tx\":1", "6,\"member\":\"tx\""),
     ("\"sets\":[],\"x\":1", "6,\"member\":\"sets\""),
     ("\"no\":0", "7,\"member\":\"no\""),
@@ -183,6 +183,7 @@ const WRITES: [(&str, &str); 16] = [
         "7,\"member\":\"key\"",
     ),
     ("\"kind\":\"Receipt\",\"date\":7", "7,\"member\":\"kind\""),
+    ("\"kind\":null", "7,\"member\":\"kind\""),
     (
         "\"date\":\"2024-02-30\",\"head\":7",
         "7,\"member\":\"date\"",
@@ -190,7 +191,7 @@ const WRITES: [(&str, &str); 16] = [
 ];
 
 // The same of its head, its lines and its comment.
-const CONTENTS: [(&str, &str); 15] = [
+pub(crate) const CONTENTS: [(&str, &str); 15] = [
     ("\"head\":[],\"lines\":7", "7,\"member\":\"head\""),
     ("\"head\":null", "7,\"member\":\"head\""),
     ("\"head\":{\"Item\":\"nail\"}", "7,\"member\":\"head\""),

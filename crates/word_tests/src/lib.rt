@@ -13,6 +13,8 @@
 #[cfg(test)]
 mod document_tests;
 #[cfg(test)]
+mod post_tests;
+#[cfg(test)]
 mod print_tests;
 #[cfg(test)]
 mod reply_tests;

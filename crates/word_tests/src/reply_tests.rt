@@ -6,7 +6,8 @@ use crate::rows::{REFUSED, WHOLE, expect};
 use crate::tests::{line_of, refused, told_of};
 use desk_words::{Acknowledgement, Answer, Field, Limit, Refusal, Reply};
 use reg_base::{
-    Code, Date, DocState, EntryFault, Line, List, Name, PostFault, Right, Scale, SumRow, Value,
+    Code, Date, DocState, EntryFault, Line, List, Name, Point, PostFault, Right, Scale, SumRow,
+    Value,
 };
 use std::alloc::Global;
 use std::process::Abort;
@@ -184,6 +185,42 @@ fn a_broken_rule_tells_its_code(rt: HostRuntime) -> Result<(), Fail> {
     let wanted =
         "\"code\":15,\"fault\":1,\"line\":0,\"name\":\"Rule\",\"rule\":2,\"text\":\"nail\"";
     expect_fault(&rt, rt.alloc(), &broken, None, wanted);
+    Ok(())
+}
+
+// What is printed of a control on the quantity of nails of a lot.
+fn control_line(alloc: Global, lots: &[Value], balance: i128, decimals: u8) -> Option<String> {
+    let mut values = List::new(alloc);
+    values.push(Value::Code(Code::parse("nail")?)).ok()?;
+    for lot in lots {
+        values.push(*lot).ok()?;
+    }
+    let control = Refusal::Control {
+        register: Name::parse("goods")?,
+        values,
+        balance,
+        scale: Scale::new(decimals)?,
+    };
+    refused(alloc, control)
+}
+
+#[test]
+fn a_control_tells_what_a_resource_would_come_to(rt: HostRuntime) -> Result<(), Fail> {
+    let alloc = rt.alloc();
+    let wanted = "\"balance\":\"-1.000\",\"code\":18,\"name\":\"Control\",\
+        \"register\":\"goods\",\"values\":[\"nail\"]";
+    expect(
+        &rt,
+        "nails",
+        control_line(alloc, &[], -1_000, 3),
+        &REFUSED,
+        wanted,
+    );
+    let lot = Point::parse("2024-01-10T09:00:00#1").map_err(|_| "no lot")?;
+    let told = control_line(alloc, &[Value::Lot(lot)], -12, 0);
+    let wanted = "\"balance\":\"-12\",\"code\":18,\"name\":\"Control\",\
+        \"register\":\"goods\",\"values\":[\"nail\",\"2024-01-10T09:00:00#1\"]";
+    expect(&rt, "nails of a lot", told, &REFUSED, wanted);
     Ok(())
 }
 

@@ -73,7 +73,7 @@ const LINES: [(&str, &str); 17] = [
     ("{\"op\":7}", "4"),
     ("{\"op\":null}", "4"),
     ("{\"op\":\"Manual\"}", "4"),
-    ("{\"clerk\":\"anna\",\"no\":1,\"op\":\"post\"}", "4"),
+    ("{\"clerk\":\"anna\",\"no\":1,\"op\":\"begin\"}", "4"),
     (
         "{\"op\":\"balance\",\"op\":7,\"clerk\":\"anna\",\"register\":\"goods\"}",
         "4",
