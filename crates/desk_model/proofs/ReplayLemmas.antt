@@ -11,8 +11,10 @@ use Rattle.reg_base.specs.declared.records.Document.{Document}
 use Rattle.reg_base.specs.Results.{◌>>=◌, unless}
 use Rattle.desk_words.specs.declared.request.Request.{Request}
 use Rattle.desk_words.specs.declared.reply.Refusal.{Refusal}
-use Rattle.desk_words.specs.declared.request.Request.TheVariants.{Write, Mark, Manual, Activity}
-use Rattle.desk_words.specs.declared.request.Request.TheVariants.{Close, Sweep, Balance, Doc}
+use Rattle.desk_words.specs.declared.request.Request.TheVariants.{Write, Post, Unpost, Mark, Manual}
+use Rattle.desk_words.specs.declared.request.Request.TheVariants.{Activity, Close, Sweep, Balance}
+use Rattle.desk_words.specs.declared.request.Request.TheVariants.{Doc}
+use Rattle.desk_words.specs.declared.request.Post.TheVariants.{Content, Standing}
 use Rattle.desk_words.specs.declared.reply.Refusal.TheVariants.{UnknownClerk, NotAllowed, Limit}
 use Rattle.desk_words.specs.declared.reply.Limit.TheVariants.{Documents, Lines, Numbers}
 use Rattle.reg_base.specs.Documents.{document_at}
@@ -160,6 +162,10 @@ drawn-at : (desk : Desk) (request : Request) (effect : Effect) → AreNumbered d
     is_drawn desk.serial (meaning_at desk request).draws (command_at desk request).number ≡ true
 drawn-at desk (Write w) effect numbered h =
     making-drawn _ desk.setting desk.serial w.doc w.key _ effect numbered h
+drawn-at desk (Post (Content w)) effect numbered h =
+    making-drawn _ desk.setting desk.serial w.doc w.key _ effect numbered h
+drawn-at desk (Post (Standing s)) effect numbered h = refl
+drawn-at desk (Unpost u) effect numbered h = refl
 drawn-at desk (Mark m) effect numbered h = refl
 drawn-at desk (Manual m) effect numbered h =
     making-drawn _ desk.setting desk.serial m.doc m.key _ effect numbered h

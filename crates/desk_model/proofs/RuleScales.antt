@@ -1,6 +1,6 @@
 -- The refusals of rules, of controls and of posting have their scales.
 use Rattle.std.proofs.Common.{◌≡◌, ℕ, ℤ, pos, Bool, true, false, cond, Option, Some, None, IfSome}
-use Rattle.std.proofs.Common.{List, [], ◌∷◌, ◌&&◌, Result, Ok, Err, slice_get, nat_le, sym, subst}
+use Rattle.std.proofs.Common.{List, [], ◌∷◌, ◌++◌, ◌&&◌, Result, Ok, Err, slice_get, nat_le, sym, subst}
 use Rattle.std.proofs.Common.{refl}
 use Rattle.std.specs.Prelude.{int_lt}
 use Rattle.reg_base.specs.declared.fault.PostFault.{PostFault}
@@ -11,7 +11,7 @@ use Rattle.reg_base.specs.declared.records.DocState.TheVariants.{Posted}
 use Rattle.reg_base.specs.declared.records.Document.{Document}
 use Rattle.reg_base.specs.declared.value.Value.{Value}
 use Rattle.reg_base.specs.Records.{Booked, records_of}
-use Rattle.reg_base.specs.Balances.{total}
+use Rattle.reg_base.specs.Balances.{groups_of, total}
 use Rattle.reg_base.specs.Results.{unless, some_or, none_or}
 use Rattle.cfg_model.specs.declared.config.Config.{Config}
 use Rattle.cfg_model.specs.declared.register.Register.{Register}
@@ -35,7 +35,9 @@ use Rattle.desk_model.specs.Posts.{is_unmarked_kind, is_posted_kind, plan_post, 
 use Rattle.desk_model.specs.Posts.{plan_unpost}
 use Rattle.desk_model.specs.RecordSets.{no_sets, given_by_hand}
 use Rattle.desk_model.specs.DocumentSets.{fault_scale, with_yield, document_from}
-use Rattle.desk_model.specs.Controls.{has_fallen, control_refusal, first_below, control_at}
+use Rattle.post_model.specs.Makes.{option_or}
+use Rattle.desk_model.specs.Controls.{own_records, has_fallen, control_refusal, first_below}
+use Rattle.desk_model.specs.Controls.{control_of, control_at}
 use Rattle.desk_model.specs.Controls.{first_control, controls_of, control_fault}
 use Rattle.desk_model.proofs.RefusalScales.{Plainly, then, test, there, with_given-plainly}
 use Rattle.desk_model.proofs.RefusalScales.{named_is_seen-plainly, takes-plainly}
@@ -46,7 +48,7 @@ use Rattle.desk_model.proofs.RefusalScales.{plan_content-plainly}
 fault_scale-plainly : (setting : Setting) (doc : Doc) (fault : PostFault) →
     RefusalHasScales (Rule fault (fault_scale setting doc fault))
 fault_scale-plainly setting doc (Broken rule line code) = tt
-fault_scale-plainly setting doc (Shortage rule line missing) = tt
+fault_scale-plainly setting doc (Shortage rule line missing) = refl
 fault_scale-plainly setting doc (Overflow rule line) = tt
 fault_scale-plainly setting doc (Entry rule line fault) = tt
 fault_scale-plainly setting doc TooManyRecords = tt
@@ -96,36 +98,37 @@ first_below-plainly register resource place before after all (values ∷ more) =
     at true others = tt
     at false others = others
 
+control_of-plainly : (register : Register) (control : ℕ × ℕ) (documents : List Document)
+    (before after : Option Document) (found : Option Resource) →
+    MayBePlain (control_of register control documents before after found)
+control_of-plainly register control documents before after None = tt
+control_of-plainly register control documents before after (Some resource) =
+    first_below-plainly register resource control.1 (own_records control.0 before)
+    (own_records control.0 after) (records_of control.0 documents)
+    (groups_of None (own_records control.0 before ++ own_records control.0 after))
+
 control_at-plainly : (register : Option Register) (control : ℕ × ℕ) (documents : List Document)
     (before after : Option Document) →
     MayBePlain (control_at register control documents before after)
 control_at-plainly None control documents before after = tt
 control_at-plainly (Some register) control documents before after =
-    at (slice_get register.resources control.1) refl
-  where
-    at : (found : Option Resource) → slice_get register.resources control.1 ≡ found →
-        MayBePlain (control_at (Some register) control documents before after)
-    at None is = subst MayBePlain (sym (absent is)) tt
-      where
-        absent : slice_get register.resources control.1 ≡ None →
-            control_at (Some register) control documents before after ≡ None
-        absent none = rw none refl
-    at (Some resource) is = first_below-plainly register resource control.1 _ _ _ _
+    control_of-plainly register control documents before after
+    (slice_get register.resources control.1)
+
+option_or-plain : (first other : Option Refusal) → MayBePlain first → MayBePlain other →
+    MayBePlain (option_or first other)
+option_or-plain None other plain others = others
+option_or-plain (Some refusal) other plain others = plain
 
 first_control-plainly : (config : Config) (controls : List (ℕ × ℕ)) (documents : List Document)
     (before after : Option Document) →
     MayBePlain (first_control config controls documents before after)
 first_control-plainly config [] documents before after = tt
-first_control-plainly config (control ∷ more) documents before after =
-    at (control_at (slice_get config.registers control.0) control documents before after) refl
+first_control-plainly config (control ∷ more) documents before after = option_or-plain
+    (control_at (slice_get config.registers control.0) control documents before after)
+    (first_control config more documents before after)
     (control_at-plainly (slice_get config.registers control.0) control documents before after)
-  where
-    at : (first : Option Refusal) →
-        control_at (slice_get config.registers control.0) control documents before after ≡ first →
-        MayBePlain first →
-        MayBePlain (first_control config (control ∷ more) documents before after)
-    at None is plain = rw is (first_control-plainly config more documents before after)
-    at (Some refusal) is plain = rw is plain
+    (first_control-plainly config more documents before after)
 
 pub control_fault-plainly : (setting : Setting) (plan : Plan) (documents : List Document)
     (before after : Option Document) →

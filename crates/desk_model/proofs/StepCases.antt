@@ -10,8 +10,10 @@ use Rattle.std.specs.Str.{bytes_eq}
 use Rattle.reg_base.specs.declared.right.Right.{Right}
 use Rattle.reg_base.specs.Results.{◌>>=◌, unless, none_or}
 use Rattle.desk_words.specs.declared.request.Request.{Request}
-use Rattle.desk_words.specs.declared.request.Request.TheVariants.{Write, Mark, Manual, Activity}
-use Rattle.desk_words.specs.declared.request.Request.TheVariants.{Close, Sweep, Balance, Doc}
+use Rattle.desk_words.specs.declared.request.Request.TheVariants.{Write, Post, Unpost, Mark, Manual}
+use Rattle.desk_words.specs.declared.request.Request.TheVariants.{Activity, Close, Sweep, Balance}
+use Rattle.desk_words.specs.declared.request.Request.TheVariants.{Doc}
+use Rattle.desk_words.specs.declared.request.Post.TheVariants.{Content, Standing}
 use Rattle.desk_words.specs.declared.reply.Acknowledgement.{Acknowledgement}
 use Rattle.desk_words.specs.declared.reply.Answer.{Answer}
 use Rattle.desk_words.specs.declared.reply.Answer.TheVariants.{Acknowledged}
@@ -200,6 +202,11 @@ module _ (desk : Desk) (r : Request) where
 pub step-comes : (desk : Desk) (r : Request) → Comes desk (meaning_at desk r) r (step desk r)
 unfolding step effect_of question_effect document_effect
 step-comes desk (Write w) = change-comes desk (Write w) w.clerk _ w.no _ _
+step-comes desk (Post (Content w)) =
+    change-comes desk (Post (Content w)) w.clerk _ w.no _ _
+step-comes desk (Post (Standing s)) =
+    change-comes desk (Post (Standing s)) s.clerk _ s.no _ _
+step-comes desk (Unpost u) = change-comes desk (Unpost u) u.clerk _ u.no _ _
 step-comes desk (Mark m) = change-comes desk (Mark m) m.clerk _ m.no _ _
 step-comes desk (Manual m) = change-comes desk (Manual m) m.clerk _ m.no _ _
 step-comes desk (Activity m) = change-comes desk (Activity m) m.clerk _ m.no _ _

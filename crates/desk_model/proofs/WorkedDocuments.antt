@@ -29,7 +29,7 @@ use Rattle.desk_model.specs.Fields.{cells_of}
 use Rattle.desk_model.specs.Writes.{kind_of_request, content_of, plan_content, plan_write}
 use Rattle.desk_model.specs.Questions.{question_balance}
 use Rattle.desk_model.specs.Limits.{limits_of}
-use Rattle.desk_model.specs.Serial.{plan_effect, change_effect, question_answer}
+use Rattle.desk_model.specs.Serial.{work_effect, plan_effect, change_effect, question_answer}
 use Rattle.desk_model.specs.Serial.{question_effect, effect_of}
 use Rattle.desk_model.specs.Desk.{step}
 use Rattle.desk_model.proofs.RowBooks.{empty, morning, tenth, eleventh, twelfth, fifteenth}

@@ -38,7 +38,7 @@ use Rattle.desk_model.specs.Writes.{kind_of_request, content_of, plan_content, p
 use Rattle.desk_model.specs.States.{plan_mark, plan_activity, plan_sweep}
 use Rattle.desk_model.specs.Limits.{within_limit, most_documents, most_kept_records}
 use Rattle.desk_model.specs.Limits.{records_with, limits_of}
-use Rattle.desk_model.specs.Serial.{plan_effect, change_effect, effect_of}
+use Rattle.desk_model.specs.Serial.{work_effect, plan_effect, change_effect, effect_of}
 use Rattle.desk_model.specs.Desk.{step}
 use Rattle.desk_model.proofs.RowBooks.{main_ledger, shop, empty, morning, tenth, eleventh, side}
 use Rattle.desk_model.proofs.RowBooks.{of_register, of_ledger}

@@ -31,7 +31,7 @@ use Rattle.desk_model.specs.RecordSets.{record_set}
 use Rattle.desk_model.specs.Questions.{question_balance}
 use Rattle.desk_model.specs.Limits.{limits_of}
 use Rattle.desk_model.specs.Effects.{Effect}
-use Rattle.desk_model.specs.Serial.{plan_effect, change_effect, question_answer}
+use Rattle.desk_model.specs.Serial.{work_effect, plan_effect, change_effect, question_answer}
 use Rattle.desk_model.specs.Serial.{question_effect, effect_of, SerialFault, bad_number, serial}
 use Rattle.desk_model.specs.Desk.{step}
 use Rattle.desk_model.proofs.RepeatLemmas.{step-same_number, same_number-same}

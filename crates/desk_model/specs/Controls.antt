@@ -17,6 +17,7 @@ use Rattle.rule_lang.specs.declared.statement.Act.{Act}
 use Rattle.rule_lang.specs.declared.statement.Act.TheVariants.{Make, WriteOff, Require, Control}
 use Rattle.rule_lang.specs.declared.statement.Act.TheVariants.{Entry as EntryAct}
 use Rattle.rule_lang.specs.declared.statement.Statement.{Statement}
+use Rattle.post_model.specs.Makes.{option_or}
 use Rattle.post_model.specs.Yields.{statements_for}
 use Rattle.desk_words.specs.declared.reply.Refusal.{Refusal}
 use Rattle.desk_words.specs.declared.reply.Refusal.TheVariants.{Control as ControlRefusal}
@@ -69,32 +70,30 @@ first_below register resource place before after all (values ∷ more) =
     then Some (control_refusal register resource values (total None values all place))
     else first_below register resource place before after all more
 
--- the combinations of a control are those of the document's records before and after, in order of
--- their values
+-- the first combination of a control that fails: its combinations are those of the document's
+-- records before and after, in order of their values
+abbrev pub control_of : Register → ℕ × ℕ → List Document → Option Document → Option Document →
+    Option Resource → Option Refusal
+control_of register control documents before after None = None
+control_of register control documents before after (Some resource) =
+    first_below register resource control.1 (own_records control.0 before)
+    (own_records control.0 after) (records_of control.0 documents)
+    (groups_of None (own_records control.0 before ++ own_records control.0 after))
+
+-- the same at a register that is there
 abbrev pub control_at : Option Register → ℕ × ℕ → List Document → Option Document →
     Option Document → Option Refusal
 control_at None control documents before after = None
 control_at (Some register) control documents before after =
-    of_resource (slice_get register.resources control.1)
-  where
-    of_resource : Option Resource → Option Refusal
-    of_resource None = None
-    of_resource (Some resource) =
-        first_below register resource control.1 (own_records control.0 before)
-        (own_records control.0 after) (records_of control.0 documents)
-        (groups_of None (own_records control.0 before ++ own_records control.0 after))
+    control_of register control documents before after (slice_get register.resources control.1)
 
 -- the first control that fails
 abbrev pub first_control : Config → List (ℕ × ℕ) → List Document → Option Document →
     Option Document → Option Refusal
 first_control config [] documents before after = None
-first_control config (control ∷ more) documents before after = first_or
+first_control config (control ∷ more) documents before after = option_or
     (control_at (slice_get config.registers control.0) control documents before after)
     (first_control config more documents before after)
-  where
-    first_or : Option Refusal → Option Refusal → Option Refusal
-    first_or None other = other
-    first_or (Some refusal) other = Some refusal
 
 -- behind a post by rules nothing that they control is below zero, where it fell; other changes are
 -- not controlled
