@@ -1,0 +1,4 @@
+mod RowShop
+mod WorkedRows
+mod WorkedFaults
+mod WorkedRounds
