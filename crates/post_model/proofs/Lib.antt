@@ -1,4 +1,7 @@
+mod WalkLemmas
 mod RowShop
 mod WorkedRows
 mod WorkedFaults
 mod WorkedRounds
+mod ReadLemmas
+mod SetLemmas

@@ -1,0 +1,27 @@
+//! Laws over the definitions, each the contract of a function that does nothing.
+ghost use Rattle.std.specs.Prelude.{◌≡◌, ℕ, List, Ok, IfOk};
+ghost use Rattle.std.specs.List.{All};
+ghost use Rattle.reg_base.specs.Records.{Booked};
+ghost use Rattle.reg_base.specs.declared.records.Doc.{Doc};
+ghost use Rattle.cfg_model.specs.declared.config.Config.{Config};
+ghost use Rattle.rule_lang.specs.declared.rules.Rules.{Rules};
+ghost use Rattle.post_model.specs.declared.made.Yield.{Yield};
+ghost use Rattle.post_model.specs.Yields.{yield_of};
+ghost use Rattle.post_model.specs.Laws.{AgreeOn, AreSetsOf};
+
+/// A law: what posting makes rests on what its reads name. Of other books that agree with these on
+/// each item that was read, the document makes the same.
+pub fn yields_rest_on_reads()
+    ensures { (config : Config) (rules : Rules) (doc : Doc) (books others : ℕ → List Booked)
+        (made : Yield) → yield_of config rules doc books ≡ Ok made
+        → All (AgreeOn config doc books others) made.reads
+        → yield_of config rules doc others ≡ Ok made }
+{}
+
+/// A law: what posting makes is a set for each register and each ledger, of at most 5,000 records
+/// or entries under the line numbers from 1 on. Each record has a number for every resource, and
+/// none of the numbers is past the largest.
+pub fn yields_are_within_limits()
+    ensures { (config : Config) (rules : Rules) (doc : Doc) (books : ℕ → List Booked)
+        → IfOk (yield_of config rules doc books) (λ made. AreSetsOf config made.sets) }
+{}
