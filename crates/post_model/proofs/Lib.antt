@@ -5,3 +5,4 @@ mod WorkedFaults
 mod WorkedRounds
 mod ReadLemmas
 mod SetLemmas
+mod TakeLemmas
