@@ -1,0 +1,8 @@
+mod WalkLemmas
+mod RowShop
+mod WorkedRows
+mod WorkedFaults
+mod WorkedRounds
+mod ReadLemmas
+mod SetLemmas
+mod TakeLemmas

@@ -12,9 +12,7 @@ use Rattle.reg_base.specs.declared.records.Item.{Item}
 use Rattle.reg_base.specs.declared.records.Mark.{Mark}
 use Rattle.reg_base.specs.declared.records.Mark.TheVariants.{Receipt, Expense, Turn}
 use Rattle.reg_base.specs.declared.records.Mode.TheVariants.{Shared}
-use Rattle.reg_base.specs.declared.records.Rec.{Rec}
 use Rattle.reg_base.specs.declared.records.Sets.{Sets}
-use Rattle.reg_base.specs.declared.value.Value.{Value}
 use Rattle.reg_base.specs.Records.{Booked, chosen_records, records_within, without_recorder}
 use Rattle.rule_lang.specs.declared.statement.Act.{Act}
 use Rattle.rule_lang.specs.declared.statement.Act.TheVariants.{Make, WriteOff, Require, Control}
@@ -67,13 +65,18 @@ expenses_of doc sets register =
     map (λ r. record { recorder = doc.number; rec = r })
     (filter (λ r. is_expense r.mark) (unwrap_or (slice_get sets.registers register) []))
 
--- what is left of the records that an item names: those of other documents before the document's
--- own point, and the expenses that the document has made so far
+-- the records that a document sees of what an item names: those of other documents before its own
+-- point
+abbrev pub seen_of : (ℕ → List Booked) → Doc → Item → List Booked
+seen_of books doc item =
+    records_within (BeforePoint (own_point doc))
+    (chosen_records (filter_of item) (without_recorder doc.number (books item.space)))
+
+-- what is left of the records that an item names: those that the document sees, and the expenses
+-- that it has made so far
 unfoldable pub left_of : (ℕ → List Booked) → Doc → Sets → Item → List Booked
 left_of books doc sets item =
-    records_within (BeforePoint (own_point doc))
-        (chosen_records (filter_of item) (without_recorder doc.number (books item.space)))
-    ++ chosen_records (filter_of item) (expenses_of doc sets item.space)
+    seen_of books doc item ++ chosen_records (filter_of item) (expenses_of doc sets item.space)
 
 -- what a read finds: nothing where there is none
 abbrev pub found_by : (ℕ → List Booked) → Doc → Sets → Option Item → List Booked

@@ -15,7 +15,6 @@ use Rattle.reg_base.specs.declared.records.Mark.{Mark}
 use Rattle.reg_base.specs.declared.records.Mark.TheVariants.{Receipt, Expense, Turn}
 use Rattle.reg_base.specs.declared.records.Posting.{Posting}
 use Rattle.reg_base.specs.declared.records.Rec.{Rec}
-use Rattle.reg_base.specs.declared.records.Sets.{Sets}
 use Rattle.reg_base.specs.declared.records.Side.{Side}
 use Rattle.reg_base.specs.declared.value.Value.{Value}
 use Rattle.rule_text.specs.declared.plain.Verb.{Verb}

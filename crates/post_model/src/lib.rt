@@ -12,7 +12,9 @@
 #![tactic(auto)]
 
 mod holding;
+mod laws;
 mod made;
 
 pub use holding::Holding;
+pub use laws::{write_offs_take_what_is_wanted, yields_are_within_limits, yields_rest_on_reads};
 pub use made::{Made, Yield};
