@@ -6,3 +6,4 @@ mod WorkedRounds
 mod ReadLemmas
 mod SetLemmas
 mod TakeLemmas
+mod LotLemmas
