@@ -1,8 +1,10 @@
-mod WalkLemmas
-mod RowShop
-mod WorkedRows
-mod WorkedFaults
-mod WorkedRounds
+pub mod ForAbove
+mod LotLemmas
 mod ReadLemmas
+mod RowShop
 mod SetLemmas
 mod TakeLemmas
+mod WalkLemmas
+mod WorkedFaults
+mod WorkedRounds
+mod WorkedRows

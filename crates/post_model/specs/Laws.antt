@@ -17,7 +17,7 @@ use Rattle.cfg_model.specs.declared.register.Register.{Register}
 use Rattle.post_model.specs.Scenes.{is_number}
 use Rattle.post_model.specs.Lefts.{seen_of}
 use Rattle.post_model.specs.Makes.{most_records}
-use Rattle.post_model.specs.WriteOffs.{all_in_stock}
+use Rattle.post_model.specs.WriteOffs.{in_stock, all_in_stock}
 use Rattle.post_model.specs.Yields.{depth_of}
 use Rattle.post_model.specs.declared.holding.Holding.{Holding}
 
@@ -85,3 +85,8 @@ pub record AreTakenFrom (holdings : List Holding) (wanted : ℤ) (takes : List H
   pub lots : (lot : Option Value)
       → quantity_of (of_lot lot takes) ≤ℤ all_in_stock (of_lot lot holdings)
   pub parts : All (λ t. (h : Holding) × Contains holdings h × IsPartOf h t) takes
+
+-- of the lot of each holding not more is taken than the holding has
+abbrev pub LeavesNoneBelowZero : List Holding → List Holding → Type 0
+LeavesNoneBelowZero holdings takes =
+    All (λ h. quantity_of (of_lot h.lot takes) ≤ℤ in_stock h) holdings
