@@ -108,8 +108,8 @@ impl Desk {
     // What it comes to that the records of a document are made to count, or not.
     #[tactic(auto, unfolding(desk_model::specs::Serial::change_effect))]
     fn activity_outcome(&self, alloc: Global, switch: &Switch) -> Result<Outcome, Memory>
-        ensures { IfOk result
-            (Comes self.now.desk (or_stop (deed_at self.now.desk (RequestIs.Activity switch.now)))) }
+        ensures { IfOk result (Comes self.now.desk
+            (or_stop (deed_at self.now.desk (RequestIs.Activity switch.now)))) }
     {
         let sight = self.sight(Some(switch.doc), &None);
         let plan = plan_activity(alloc, switch, &sight);
@@ -197,9 +197,10 @@ impl Desk {
     fn plan_outcome(&self, alloc: Global, sight: &Sight<'_>, plan: Plan) -> Result<Outcome, Memory>
         requires seen { IsSightOf self.now.desk.serial (sight_view sight.now) }
         requires suits { Suits (sight_view sight.now) plan }
-        ensures { (meaning : Meaning) (asked : RequestOf) → IfOk result (Comes self.now.desk (or_stop
-            (plan_effect (tests_of self.now.desk meaning asked) self.now.desk.setting
-            self.now.desk.serial (sight_view sight.now).drawn (sight_view sight.now) plan))) }
+        ensures { (meaning : Meaning) (asked : RequestOf)
+            → IfOk result (Comes self.now.desk (or_stop (plan_effect
+            (tests_of self.now.desk meaning asked) self.now.desk.setting self.now.desk.serial
+            (sight_view sight.now).drawn (sight_view sight.now) plan))) }
     {
         let number = plan.doc.number;
         let lines = plan.doc.lines.len();

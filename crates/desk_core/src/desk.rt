@@ -133,7 +133,7 @@ impl Desk {
             Outcome::Changes {
                 change,
                 acknowledgement,
-            } => prepare_change(alloc, change, acknowledgement),
+            } => prepare_change(alloc, change, &acknowledgement),
         }
     }
 

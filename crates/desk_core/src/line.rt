@@ -57,11 +57,7 @@ fn answer_text(alloc: Global, desk: &mut Desk, line: &Line) -> Result<Vec<u8>, S
 }
 
 // Answers a line's request: no line speaks for the clerk that is built in.
-fn answer_request(
-    alloc: Global,
-    desk: &mut Desk,
-    request: Request,
-) -> Result<Vec<u8>, StepEnd>
+fn answer_request(alloc: Global, desk: &mut Desk, request: Request) -> Result<Vec<u8>, StepEnd>
     requires { IsRequest request }
     ensures ok { IfOk result
         (λ text. AnswersEvent (event_of_request desk.old.desk request) text desk.new.desk) }

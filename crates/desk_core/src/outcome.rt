@@ -109,18 +109,18 @@ pub(crate) fn prepare_reply(alloc: Global, reply: Reply) -> Result<Prepared, Mem
 pub(crate) fn prepare_change(
     alloc: Global,
     change: Change,
-    acknowledgement: Acknowledgement,
+    acknowledgement: &Acknowledgement,
 ) -> Result<Prepared, Memory>
     ensures reply { IfOk result
-        (λ prepared. prepared.reply ≡ Reply.Done (Answer.Acknowledged acknowledgement)) }
+        (λ prepared. prepared.reply ≡ Reply.Done (Answer.Acknowledged acknowledgement.now)) }
     ensures text { IfOk result
         (λ prepared. prepared.text.items ≡ reply_text prepared.reply ++ 10 ∷ []) }
     ensures entry { IfOk result (λ prepared. prepared.entry ≡ Some (record {
       change = change;
-      acknowledgement = acknowledgement;
+      acknowledgement = acknowledgement.now;
     })) }
 {
-    let reply = Reply::Done(Answer::Acknowledged(acknowledgement));
+    let reply = Reply::Done(Answer::Acknowledged(*acknowledgement));
     let Prepared {
         reply,
         text,
@@ -131,7 +131,7 @@ pub(crate) fn prepare_change(
         text,
         entry: Some(Entry {
             change,
-            acknowledgement,
+            acknowledgement: *acknowledgement,
         }),
     })
 }

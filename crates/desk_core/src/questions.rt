@@ -24,8 +24,8 @@ impl Desk {
         alloc: Global,
         balance: &Balance,
     ) -> Result<Outcome, Memory>
-        ensures { IfOk result
-            (Comes self.now.desk (or_stop (deed_at self.now.desk (RequestIs.Balance balance.now)))) }
+        ensures { IfOk result (Comes self.now.desk
+            (or_stop (deed_at self.now.desk (RequestIs.Balance balance.now)))) }
     {
         match self.answer_balance(alloc, balance) {
             Ok(answer) => Ok(Outcome::Replies(Reply::Done(answer))),

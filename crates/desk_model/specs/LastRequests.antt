@@ -41,7 +41,8 @@ lasts_with clerk (Some number) request (Acknowledged acknowledgement) lasts = wi
 abbrev pub is_same : Request → Request → Bool
 is_same request other = bytes_eq (request_text request) (request_text other)
 
--- what the same number says by whether the request is the same too: a repeat, or a number used again
+-- what the same number says by whether the request is the same too: a repeat, or a number that is
+-- used again
 abbrev pub same_number : Bool → Acknowledgement → Result (Unit {0}) Stop
 same_number true acknowledgement = Err (repeats acknowledgement)
 same_number false acknowledgement = Err (refuses NumberReused)

@@ -66,13 +66,14 @@ written_off config scene register binds quantity amount made takes =
     (λ (h : Holding). taken_numbers quantity amount h (depth_of config register)) takes
     (record made { cost = cost_of takes })
 
+-- the sum at a resource that the first row has, and 0 where there is none
+abbrev pub first_sum : ℕ → List SumRow → ℤ
+first_sum resource [] = pos 0
+first_sum resource (row ∷ rows) = sum_in row resource
+
 -- the sum of what is left at a resource
 abbrev pub left_sum : ℕ → ℕ → List Booked → ℤ
-left_sum resources resource left = sum_of (sum_rows resources (Some []) left)
-  where
-    sum_of : List SumRow → ℤ
-    sum_of [] = pos 0
-    sum_of (row ∷ rows) = sum_in row resource
+left_sum resources resource left = first_sum resource (sum_rows resources (Some []) left)
 
 -- an act where these records are left of what it reads
 unfoldable pub act_on : Config → Scene → Act → List Booked → Made → Result Made PostFault

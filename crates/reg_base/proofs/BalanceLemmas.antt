@@ -2,7 +2,8 @@
 use Rattle.std.proofs.Common.{◌≡◌, ℕ, ℤ, pos, ◌+ℤ◌, Bool, true, false, ◌&&◌, cond, Option, List, []}
 use Rattle.std.proofs.Common.{◌∷◌, ◌++◌, map, refl, ap, ◌∙◌, sym, arith}
 use Rattle.std.specs.Prelude.{IsPermutation}
-use Rattle.std.specs.List.{filter, flat_map, range_with_len}
+use Rattle.std.specs.List.{filter, flat_map, range_with_len, AllByRecursion}
+use Rattle.std.specs.List.Sorted.{IsStrictlySortedBy}
 use Rattle.std.proofs.lemmas.Int.{ints}
 use Rattle.reg_base.specs.declared.value.Value.{Value}
 use Rattle.reg_base.specs.declared.records.Document.{Document}
@@ -15,7 +16,7 @@ use Rattle.reg_base.specs.Records.{records_of, matches}
 use Rattle.reg_base.specs.Balances.{group_of, groups_of, contribution, total, is_shown, sum_rows}
 use Rattle.reg_base.specs.Balances.{balance_of}
 use Rattle.reg_base.proofs.OrderLemmas.{values_cmp_total, values_cmp_exact}
-use Rattle.reg_base.proofs.OnceLemmas.{put_once-put_once}
+use Rattle.reg_base.proofs.OnceLemmas.{put_once-put_once, put_once-all, put_once-rising}
 use Rattle.reg_base.proofs.PermutationLemmas.{value-permutation, IsPermutation-in_order}
 
 +-left_comm : (a b c : ℤ) → a +ℤ (b +ℤ c) ≡ b +ℤ (a +ℤ c)
@@ -52,6 +53,22 @@ module _ (by : Option (List ℕ)) where
   with_group-with_group true false a b gs = refl
   with_group-with_group false true a b gs = refl
   with_group-with_group false false a b gs = refl
+
+  -- groups rise
+  pub groups_of-rising : (bs : List Booked) → IsStrictlySortedBy values_cmp (groups_of by bs)
+  unfolding IsStrictlySortedBy
+  groups_of-rising [] = tt
+  groups_of-rising (b ∷ bs) =
+      put_once-rising values_cmp_total values_cmp_exact (group_of by b) (groups_of by bs)
+      (groups_of-rising bs)
+
+  -- what holds of the group of each record holds of all groups
+  pub groups_of-all : (P : List Value → Type 0) → ((b : Booked) → P (group_of by b))
+      → (bs : List Booked) → AllByRecursion P (groups_of by bs)
+  groups_of-all P each [] = tt
+  groups_of-all P each (b ∷ bs) =
+      put_once-all values_cmp_total values_cmp_exact P (group_of by b) (groups_of by bs) (each b)
+      (groups_of-all P each bs)
 
   -- what a record adds to a group, where it passes a test
   abbrev part : Bool → List Value → ℕ → Booked → ℤ

@@ -3,11 +3,13 @@ use Rattle.std.proofs.Common.{◌≡◌, ℕ, ◌+◌, ◌*◌, ◌%◌, ◌^◌
 use Rattle.std.proofs.Common.{nat_lt, Option, IfSome, List, [], ◌∷◌, ◌++◌, length, get_or, IsUtf8}
 use Rattle.std.proofs.Common.{Result, Ok, IfOk}
 use Rattle.std.specs.Prelude.{filter}
-use Rattle.std.specs.List.{list_all, flat_map, prefix_len}
+use Rattle.std.specs.List.{list_all, flat_map, prefix_len, AllByRecursion}
+use Rattle.std.specs.List.Sorted.{IsStrictlySortedBy}
 use Rattle.std.specs.Char.{is_ascii_digit}
 use Rattle.std.specs.Fmt.{decimal}
 use Rattle.std.specs.Str.{IsAscii}
 use Rattle.std.specs.Cmp.{IsTotalOrder}
+use Rattle.std.specs.declared.cmp.Ordering.{Ordering}
 use Rattle.std.proofs.lemmas.Map.Lookups.{CmpEqualImpliesEq}
 use Rattle.reg_base.specs.declared.value.Value.{Value}
 use Rattle.reg_base.specs.declared.records.Document.{Document}
@@ -32,6 +34,7 @@ use Rattle.reg_base.proofs.DateTextLemmas as dates
 use Rattle.reg_base.proofs.RangeLemmas as ranges
 use Rattle.reg_base.proofs.Utf8Lemmas as utf8
 use Rattle.reg_base.proofs.OrderLemmas as orders
+use Rattle.reg_base.proofs.OnceLemmas as onces
 use Rattle.reg_base.proofs.BalanceLemmas as balances
 
 -- ---- readers that go on step by step
@@ -144,6 +147,21 @@ pub values_cmp_exact : CmpEqualImpliesEq values_cmp
 values_cmp_exact = orders.values_cmp_exact
 
 -- ---- balances
+
+-- an element put once into a rising list leaves it rising
+pub put_once-rising : {X : Type 0} {R : X → X → Ordering} → IsTotalOrder R → CmpEqualImpliesEq R
+    → (x : X) (ys : List X) → IsStrictlySortedBy R ys → IsStrictlySortedBy R (put_once R x ys)
+put_once-rising o exact = onces.put_once-rising o exact
+
+-- groups rise
+pub groups_of-rising : (by : Option (List ℕ)) (bs : List Booked)
+    → IsStrictlySortedBy values_cmp (groups_of by bs)
+groups_of-rising = balances.groups_of-rising
+
+-- what holds of the group of each record holds of all groups
+pub groups_of-all : (by : Option (List ℕ)) (P : List Value → Type 0)
+    → ((b : Booked) → P (group_of by b)) → (bs : List Booked) → AllByRecursion P (groups_of by bs)
+groups_of-all = balances.groups_of-all
 
 -- one record more, at the end
 pub groups_of-push : (by : Option (List ℕ)) (bs : List Booked) (b : Booked)

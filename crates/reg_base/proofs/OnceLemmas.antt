@@ -1,6 +1,8 @@
--- Elements put once into a list in order may come in any order.
+-- Elements put once into a list in order may come in any order, and leave it rising.
 use Rattle.std.proofs.Common.{◌≡◌, List, [], ◌∷◌, refl, ap, ◌∙◌, sym}
 use Rattle.std.specs.Cmp.{IsTotalOrder}
+use Rattle.std.specs.List.{AllByRecursion}
+use Rattle.std.specs.List.Sorted.{IsStrictlySortedBy}
 use Rattle.std.proofs.lemmas.Map.Lookups.{CmpEqualImpliesEq}
 use Rattle.std.specs.Ordering.{match_ordering, ordering_reverse}
 use Rattle.std.specs.declared.cmp.Ordering.{Ordering}
@@ -96,3 +98,36 @@ module _ {X : Type 0} {R : X → X → Ordering} (o : IsTotalOrder R)
   put_once-put_once a b [] = both-first a b [] (R a b) (R b a) (o.antisymm b a) (exact a b)
   put_once-put_once a b (h ∷ hs) =
       at-head a b h hs (R a h) (R b h) refl refl (put_once-put_once a b hs)
+
+  -- ---- a list that rises
+
+  -- what is below the first of rising elements is below all of them
+  below-all : (x y : X) (ys : List X) → R x y ≡ Less → AllByRecursion (λ z. R y z ≡ Less) ys
+      → AllByRecursion (λ z. R x z ≡ Less) ys
+  below-all x y [] h all = tt
+  below-all x y (z ∷ zs) h all = (o.trans x y z h all.0, below-all x y zs h all.1)
+
+  -- what holds of an element and of others holds of those with the element
+  pub put_once-all : (P : X → Type 0) (x : X) (ys : List X) → P x → AllByRecursion P ys
+      → AllByRecursion P (put_once R x ys)
+  put_once-all P x [] h all = (h, tt)
+  put_once-all P x (y ∷ ys) h all = at (put_once-all P x ys h all.1) (R x y)
+    where
+      at : AllByRecursion P (put_once R x ys) → (r : Ordering)
+          → AllByRecursion P (match_ordering r (x ∷ y ∷ ys) (y ∷ ys) (y ∷ put_once R x ys))
+      at others Less = (h, all)
+      at others Equal = all
+      at others Greater = (all.0, others)
+
+  -- an element put once into a rising list leaves it rising
+  pub put_once-rising : (x : X) (ys : List X) → IsStrictlySortedBy R ys
+      → IsStrictlySortedBy R (put_once R x ys)
+  unfolding IsStrictlySortedBy
+  put_once-rising x [] rising = (tt, tt)
+  put_once-rising x (y ∷ ys) rising = at (put_once-rising x ys rising.1) (R x y) refl
+    where
+      at : IsStrictlySortedBy R (put_once R x ys) → (r : Ordering) → R x y ≡ r
+          → IsStrictlySortedBy R (match_ordering r (x ∷ y ∷ ys) (y ∷ ys) (y ∷ put_once R x ys))
+      at others Less p = ((p, below-all x y ys p rising.0), rising)
+      at others Equal p = rising
+      at others Greater p = (put_once-all (λ z. R y z ≡ Less) x ys (above x y p) rising.0, others)

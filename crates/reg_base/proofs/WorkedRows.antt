@@ -7,6 +7,7 @@ use Rattle.reg_base.specs.declared.date.DateFault.TheVariants.{NotADate, OutOfYe
 use Rattle.reg_base.specs.declared.cut.Cut.TheVariants.{Now, BeforeDate, ThroughDate, BeforePoint}
 use Rattle.reg_base.specs.declared.cut.Cut.TheVariants.{ThroughPoint}
 use Rattle.reg_base.specs.Results.{◌>>=◌, unless, each, check_each}
+use Rattle.reg_base.specs.Shares.{share}
 use Rattle.reg_base.specs.Numbers.{parse_num, digits_from, last_digits_from, decimals_from}
 use Rattle.reg_base.specs.Numbers.{units_of, sum_text, units_text, number_text}
 use Rattle.reg_base.specs.Dates.{parse_date, parse_long_date, number_between, day_spelt}
@@ -271,3 +272,30 @@ each_passes = refl
 first_not_passed : check_each plus_one (2 ∷ 5 ∷ 4 ∷ []) ≡ Err 5
 unfolding plus_one
 first_not_passed = refl
+
+-- shares: 100.00 for 7.000, of which 3.000 are taken
+share_of_seven : share (pos 10_000) (pos 3_000) (pos 7_000) ≡ pos 4_286
+unfolding share
+share_of_seven = refl
+
+-- a half goes away from zero, whether the number there is odd or even
+half_to_odd : share (pos 5) (pos 1) (pos 2) ≡ pos 3
+unfolding share
+half_to_odd = refl
+
+half_to_even : share (pos 3) (pos 1) (pos 2) ≡ pos 2
+unfolding share
+half_to_even = refl
+
+half_below_zero : share (negsuc 4) (pos 1) (pos 2) ≡ negsuc 2
+unfolding share
+half_below_zero = refl
+
+half_below_zero_to_even : share (negsuc 2) (pos 1) (pos 2) ≡ negsuc 1
+unfolding share
+half_below_zero_to_even = refl
+
+-- less than a half goes towards zero
+less_than_half : share (negsuc 0) (pos 1) (pos 3) ≡ pos 0
+unfolding share
+less_than_half = refl

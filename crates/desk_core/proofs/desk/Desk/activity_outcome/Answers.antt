@@ -14,6 +14,8 @@ returns c =
     let request = Activity switch in
     let meaning = meaning_at desk request in
     let sight = sight_view c.sight-sight.result in
-    change-comes desk (tests_of desk meaning request) 0 (Some switch.doc) None (plan_activity switch) sight
+    change-comes desk (tests_of desk meaning request) 0 (Some switch.doc) None
+    (plan_activity switch) sight
     c.planned.result refl c.sight-sight.ensures
-    (c.planned.ensures (plan_activity switch sight) meaning request c.plan_activity-plan.ensures.value)
+    (c.planned.ensures (plan_activity switch sight) meaning request
+    c.plan_activity-plan.ensures.value)

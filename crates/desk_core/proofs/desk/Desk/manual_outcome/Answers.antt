@@ -19,7 +19,8 @@ returns c =
     let number = (command_at desk request).number in
     let sight = sight_view c.sight-sight.result in
     let tries = subst (λ (v : DeskView). Tries c.plan_manual-plan.result
-    (plan_manual v.desk.setting.config manual sight)) c.self.view_is c.plan_manual-plan.ensures.value in
+    (plan_manual v.desk.setting.config manual sight)) c.self.view_is
+    c.plan_manual-plan.ensures.value in
     change-comes desk (tests_of desk meaning request) number manual.doc manual.key
     (plan_manual config manual) sight
     c.planned.result (drawn-new desk.serial manual.doc) c.sight-sight.ensures

@@ -19,7 +19,8 @@ returns c =
     let number = (command_at desk request).number in
     let sight = sight_view c.sight-sight.result in
     let tries = subst (λ (v : DeskView). Tries c.plan_write-plan.result
-    (plan_write v.desk.setting.config write sight)) c.self.view_is c.plan_write-plan.ensures.value in
+    (plan_write v.desk.setting.config write sight)) c.self.view_is
+    c.plan_write-plan.ensures.value in
     change-comes desk (tests_of desk meaning request) number write.doc write.key
     (plan_write config write) sight
     c.planned.result (drawn-new desk.serial write.doc) c.sight-sight.ensures
