@@ -31,10 +31,10 @@ member_name Comment = codes "comment"
 member_name Register = codes "register"
 member_name Cut = codes "cut"
 
--- posting with content, which has a type, or of a document as it stands
-abbrev pub posting : Bool → Operation
-posting true = Post
-posting false = PostStanding
+-- to post content, which has a type, or a document as it stands
+abbrev pub post_operation : Bool → Operation
+post_operation true = Post
+post_operation false = PostStanding
 
 -- the operation of that name, by whether a type is given with it
 abbrev pub operation_named : Bool → List ℕ → Option Operation
@@ -47,7 +47,7 @@ operation_named has_kind name =
     else (if bytes_eq name (codes "sweep") then Some Sweep
     else (if bytes_eq name (codes "balance") then Some Balance
     else (if bytes_eq name (codes "doc") then Some Doc_op
-    else (if bytes_eq name (codes "post") then Some (posting has_kind)
+    else (if bytes_eq name (codes "post") then Some (post_operation has_kind)
     else (if bytes_eq name (codes "unpost") then Some Unpost
     else None)))))))))
 
@@ -69,7 +69,7 @@ required_members Unpost = Op ∷ Clerk ∷ No ∷ Doc ∷ []
 abbrev pub content_members : List Member
 content_members = Key ∷ Date ∷ Head ∷ Lines ∷ Comment ∷ []
 
--- The members that an operation knows besides. Posting of a document as it stands knows those of
+-- The members that an operation knows besides. To post a document as it stands knows those of
 -- content, so that they are refused as its own.
 abbrev pub other_members : Operation → List Member
 other_members Write = Doc ∷ Key ∷ Comment ∷ []

@@ -1,7 +1,7 @@
 //! Operations, and the members that each has.
 ghost use Rattle.std.specs.Prelude.{◌≡◌, option_map};
 ghost use Rattle.serde_json.specs.View.{members_view};
-ghost use Rattle.desk_words.specs.Members.{posting, operation_named, required_members};
+ghost use Rattle.desk_words.specs.Members.{post_operation, operation_named, required_members};
 ghost use Rattle.desk_words.specs.Members.{content_members, other_members, has_member};
 ghost use Rattle.desk_words.specs.Members.{first_missing, first_present, is_name_of};
 ghost use Rattle.desk_words.specs.Members.{first_unknown_member};
@@ -20,15 +20,15 @@ pub(crate) enum Operation {
     Sweep,
     Balance,
     Doc,
-    // Posting with the content of the document.
+    // To post content.
     Post,
-    // Posting of a document as it stands.
+    // To post a document as it stands.
     PostStanding,
     Unpost,
 }
 
 impl Operation {
-    // The operation of that name. Posting that has a type has content too.
+    // The operation of that name. To post with a type is to post content.
     pub(crate) fn named(has_kind: bool, name: &str) -> Option<Operation>
         ensures { result ≡ operation_named has_kind name.now }
     {
@@ -41,19 +41,9 @@ impl Operation {
             "sweep" => Some(Operation::Sweep),
             "balance" => Some(Operation::Balance),
             "doc" => Some(Operation::Doc),
-            "post" => Some(Operation::posting(has_kind)),
+            "post" => Some(post_operation(has_kind)),
             "unpost" => Some(Operation::Unpost),
             _ => None,
-        }
-    }
-
-    fn posting(has_kind: bool) -> Operation
-        ensures { result ≡ posting has_kind }
-    {
-        if has_kind {
-            Operation::Post
-        } else {
-            Operation::PostStanding
         }
     }
 
@@ -106,6 +96,16 @@ impl Operation {
             Operation::PostStanding => content_members(),
             _ => &[],
         }
+    }
+}
+
+fn post_operation(has_kind: bool) -> Operation
+    ensures { result ≡ post_operation has_kind }
+{
+    if has_kind {
+        Operation::Post
+    } else {
+        Operation::PostStanding
     }
 }
 
