@@ -1,0 +1,6 @@
+pub mod Bounds
+pub mod Filters
+pub mod SceneViews
+pub mod Sheets
+pub mod Sums
+pub mod Tries
