@@ -76,3 +76,8 @@ own_expenses asked number recs = chosen_records asked
 abbrev pub first_sum : ℕ → List SumRow → ℤ
 first_sum resource [] = pos 0
 first_sum resource (row ∷ rows) = sum_in row resource
+
+-- not too many records, with numbers that are not too large
+pub record IsReadable (records : List Booked) : Type 0 where
+  pub few : length records ≤ most_read
+  pub small : All (λ b. HasNumbers b.rec) records

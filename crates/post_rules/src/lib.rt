@@ -11,18 +11,24 @@
 //! Leaves open: where the records come from, and when memory is wanted.
 #![tactic(auto)]
 
+mod acts;
 mod binds;
 mod conditions;
 mod entries;
+mod expenses;
 mod fault;
+mod lefts;
 mod numbers;
 mod places;
 mod reads;
 mod records;
+mod rounds;
 mod scene;
 mod stand_ins;
 mod terms;
 mod write_offs;
+mod yields;
 
 pub use fault::{Fault, YieldFault};
 pub use stand_ins::Balances;
+pub use yields::yield_sets;
