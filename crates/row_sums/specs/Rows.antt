@@ -1,5 +1,5 @@
 -- Private: the entries of a map, seen as rows.
-use Rattle.std.specs.Prelude.{ℕ, ℤ, if◌then◌else◌, List, [], ◌∷◌, map}
+use Rattle.std.specs.Prelude.{ℤ, if◌then◌else◌, List, [], ◌∷◌, map}
 use Rattle.std.specs.Ordering.{is_eq, match_ordering}
 use Rattle.std.specs.declared.vec.Vec.{Vec}
 use Rattle.reg_base.specs.declared.value.Value.{Value}

@@ -1,13 +1,14 @@
 -- What sums by group stand for, and what is added to them.
 use Rattle.std.specs.Prelude.{◌≡◌, ℕ, ◌+◌, ◌<◌, ◌^◌, ◌*◌, ℤ, pos, neg_ℤ, ◌≤ℤ◌, Option, unwrap_or}
-use Rattle.std.specs.Prelude.{Bool, false, List, [], ◌∷◌, ◌++◌, map, slice_get, length}
-use Rattle.std.specs.List.{list_any, AllByRecursion}
+use Rattle.std.specs.Prelude.{Bool, false, List, ◌++◌, map, slice_get, length}
+use Rattle.std.specs.List.{All, list_any, AllByRecursion}
 use Rattle.std.specs.List.Sorted.{IsStrictlySortedBy}
 use Rattle.std.specs.Ordering.{is_eq}
+use Rattle.std.specs.declared.cmp.Ordering.{Ordering}
 use Rattle.reg_base.specs.declared.value.Value.{Value}
 use Rattle.reg_base.specs.declared.records.Rec.{Rec}
 use Rattle.reg_base.specs.declared.records.SumRow.{SumRow}
-use Rattle.reg_base.specs.Records.{Booked, values_cmp}
+use Rattle.reg_base.specs.Records.{Booked, values_cmp, amount_at}
 use Rattle.reg_base.specs.Balances.{total, row_of}
 
 -- a record with the number of the document that made it
@@ -22,16 +23,16 @@ groups_in rows = map (λ (r : SumRow). r.group) rows
 abbrev pub IsRising : List (List Value) → Type 0
 IsRising groups = IsStrictlySortedBy values_cmp groups
 
--- whether a group is among groups
-abbrev pub has_group : List Value → List (List Value) → Bool
-has_group group groups = list_any (λ g. is_eq (values_cmp g group)) groups
+-- whether an element is among others
+abbrev pub is_among : {X : Type 0} → (X → X → Ordering) → X → List X → Bool
+is_among cmp x others = list_any (λ y. is_eq (cmp y x)) others
 
 -- the rows are those of their groups, in order, and a group without a row has sums of 0
 pub record AddsUp (by : Option (List ℕ)) (resources : ℕ) (bs : List Booked) (rows : List SumRow)
     : Type 0 where
   pub rising : IsRising (groups_in rows)
   pub same : rows ≡ map (row_of resources by bs) (groups_in rows)
-  pub covered : (group : List Value) → has_group group (groups_in rows) ≡ false
+  pub covered : (group : List Value) → is_among values_cmp group (groups_in rows) ≡ false
       → (resource : ℕ) → resource < resources → total by group bs resource ≡ pos 0
 
 -- the sum at a resource, and 0 where there is none
@@ -53,3 +54,7 @@ pub record Adds (by : Option (List ℕ)) (resources : ℕ) (more : List Booked)
   pub sums : (bs : List Booked) → AddsUp by resources bs old
       → AddsUp by resources (bs ++ more) new
   pub reach : (count : ℕ) → AreInReach count old → AreInReach (count + length more) new
+
+-- the amounts of records are such as a record can have
+abbrev pub AreAmounts : List Booked → Type 0
+AreAmounts bs = All (λ b. (resource : ℕ) → IsInReach 1 (amount_at resource b.rec)) bs

@@ -1,5 +1,6 @@
 //! The values that a record is grouped by.
-ghost use Rattle.std.specs.Prelude.{◌≡◌, Some, IfOk};
+ghost use Rattle.std.specs.Prelude.{◌≡◌, Some, IfOk, slice_get};
+ghost use Rattle.std.specs.Option.{option_copied};
 ghost use Rattle.reg_base.specs.Balances.{group_values as values_of_group};
 
 use reg_base::{Memory, Value};
@@ -16,9 +17,16 @@ pub fn group_values(
 {
     let mut group = Vec::new(alloc);
     for dimension in dimensions {
-        if let Some(value) = values.get(usize::from(*dimension)) {
+        if let Some(value) = value_at(values, *dimension) {
             group.push(*value)?;
         }
     }
     Ok(group)
+}
+
+// The value of a dimension, where there is one.
+fn value_at(values: &[Value], dimension: u8) -> Option<&Value>
+    ensures { option_copied result ≡ slice_get values.now dimension }
+{
+    values.get(usize::from(dimension))
 }

@@ -161,7 +161,8 @@ fn make_row(
         (rows_of sums.old.entries) (rows_of sums.new.entries)) }
 {
     let first = first_sums(alloc, rec, resources)?;
-    sums.insert(Vec::from_slice(alloc, group)?, first)?;
+    let key = Vec::from_slice(alloc, group)?;
+    sums.insert(key, first)?;
     Ok(())
 }
 
