@@ -1,0 +1,5 @@
+pub mod NumberLemmas
+pub mod PlaceLemmas
+pub mod RangeLemmas
+pub mod SmallTakes
+pub mod TakeLemmas

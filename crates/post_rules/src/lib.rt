@@ -1,0 +1,34 @@
+//! Posting by rules, computed: what the rules of a document's type make, or why they make nothing.
+//!
+//! Means: `yield_of` of `post_model` says what posting a document makes; `Tries` in
+//! `specs/Tries.antt` says that a call makes this or has its first fault.
+//!
+//! Stands on: `post_model` for what is made, `rule_lang` for statements, `cfg_model` for registers
+//! and charts, `reg_base` for documents, records, balances and shares.
+//!
+//! Promises: `yield_sets` makes exactly what the definition makes, or has its first fault.
+//!
+//! Leaves open: where the records come from, and when memory is wanted.
+#![tactic(auto)]
+
+mod acts;
+mod binds;
+mod conditions;
+mod entries;
+mod expenses;
+mod fault;
+mod lefts;
+mod numbers;
+mod places;
+mod reads;
+mod records;
+mod rounds;
+mod scene;
+mod stand_ins;
+mod terms;
+mod write_offs;
+mod yields;
+
+pub use fault::{Fault, YieldFault};
+pub use stand_ins::Balances;
+pub use yields::yield_sets;
