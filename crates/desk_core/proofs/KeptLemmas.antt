@@ -5,6 +5,7 @@ use Rattle.reg_base.specs.declared.records.Document.{Document}
 use Rattle.reg_base.specs.Documents.{document_at, with_document, without_document}
 use Rattle.cfg_model.specs.declared.config.Config.{Config}
 use Rattle.doc_store.specs.declared.staged.Staged.{Staged}
+use Rattle.rule_lang.specs.declared.rules.Rules.{Rules}
 use Rattle.doc_store.specs.Stores.{Stored, kept, with_staged}
 use Rattle.desk_model.specs.Limits.{record_count, records_in, records_before}
 use Rattle.desk_model.specs.State.{Desk}
@@ -55,8 +56,8 @@ records-put d documents =
 
 -- ---- a store in which one change was staged and kept
 
-module _ (config : Config) (before staged after : Stored) (change : Staged) (top records : ℕ)
-    (is_kept : IsKept config before top records)
+module _ (config : Config) (rules : Rules) (before staged after : Stored) (change : Staged)
+    (top records : ℕ) (is_kept : IsKept config rules before top records)
     (staged_is : staged ≡ record before { staged = change ∷ []; room = None })
     (after_is : after ≡ record {
       documents = kept staged.documents staged.staged;
@@ -72,9 +73,10 @@ module _ (config : Config) (before staged after : Stored) (change : Staged) (top
 
   pub IsKept-staged : (top_after records_after : ℕ) →
       AreKept (with_staged change before.documents) top_after records_after →
-      IsKept config after top_after records_after
+      IsKept config rules after top_after records_after
   IsKept-staged top_after records_after are_kept = record {
     limits = is_kept.limits;
+    statements = is_kept.statements;
     staged = nothing-staged;
     kept = subst (λ (ds : List Document). AreKept ds top_after records_after)
         (sym documents-after) are_kept;

@@ -6,7 +6,7 @@ use Rattle.std.proofs.lemmas.Bool.Decides.{nat_tests}
 use Rattle.reg_base.specs.declared.records.Doc.{Doc}
 use Rattle.reg_base.specs.declared.records.Document.{Document}
 use Rattle.reg_base.specs.Documents.{document_at, with_document, without_document}
-use Rattle.reg_base.specs.Results.{◌>>=◌, unless}
+use Rattle.reg_base.specs.Results.{◌>>=◌, unless, none_or}
 use Rattle.desk_words.specs.declared.reply.Refusal.{Refusal}
 use Rattle.desk_words.specs.declared.reply.Refusal.TheVariants.{Limit}
 use Rattle.desk_words.specs.declared.reply.Limit.{Limit as LimitOf}
@@ -15,17 +15,21 @@ use Rattle.desk_words.specs.declared.reply.Acknowledgement.TheVariants.{Document
 use Rattle.desk_words.specs.declared.reply.Answer.TheVariants.{Acknowledged}
 use Rattle.desk_model.specs.declared.plan.Plan.{Plan}
 use Rattle.desk_model.specs.declared.plan.Source.{Source}
-use Rattle.desk_model.specs.declared.plan.Source.TheVariants.{ByHand, Kept, Nothing, Removed}
+use Rattle.desk_model.specs.declared.plan.Source.TheVariants.{ByHand, ByRules, Kept, Nothing}
+use Rattle.desk_model.specs.declared.plan.Source.TheVariants.{Removed}
 use Rattle.desk_model.specs.State.{State, Desk}
 use Rattle.desk_model.specs.Plans.{Sight}
 use Rattle.desk_model.specs.States.{number_with}
 use Rattle.desk_model.specs.Limits.{limits_of, records_limit, within_limit, record_count}
 use Rattle.desk_model.specs.Limits.{records_in, records_before, records_with, most_documents}
 use Rattle.desk_model.specs.Limits.{most_kept_records, documents_with_plan}
-use Rattle.desk_model.specs.Effects.{effect_with, acknowledgement_of, documents_with}
+use Rattle.desk_model.specs.Controls.{control_fault, controls_of, first_control}
+use Rattle.desk_model.specs.Effects.{Effect, effect_with, acknowledgement_of, documents_with}
+use Rattle.desk_model.specs.Serial.{work_effect}
 use Rattle.desk_model.specs.Stops.{or_stop}
 use Rattle.desk_core.specs.declared.outcome.Change.TheVariants.{Put, Remove}
-use Rattle.desk_core.specs.declared.outcome.Outcome.TheVariants.{Changes}
+use Rattle.desk_words.specs.declared.reply.Reply.TheVariants.{Refused}
+use Rattle.desk_core.specs.declared.outcome.Outcome.TheVariants.{Replies, Changes}
 use Rattle.desk_core.specs.Invariants.{AreKept}
 use Rattle.desk_plans.specs.ShortLists.{HasShortLists}
 use Rattle.desk_core.specs.DeskViews.{Fits}
@@ -158,6 +162,7 @@ module _ (desk : Desk) (sight : Sight) (plan : Plan) (document : Document)
       ≡ Stands document.doc.active document.doc.number document.doc.state
   acknowledged (ByHand given) put =
       ap (λ (d : Doc). Stands d.active d.number d.state) own
+  acknowledged ByRules put = ap (λ (d : Doc). Stands d.active d.number d.state) own
   acknowledged Kept put = ap (λ (d : Doc). Stands d.active d.number d.state) own
   acknowledged Nothing put = ap (λ (d : Doc). Stands d.active d.number d.state) own
   acknowledged Removed put = absurd put
@@ -193,20 +198,46 @@ module _ (desk : Desk) (sight : Sight) (plan : Plan) (document : Document)
     may = fits short none;
   }
 
+  -- behind the limits stand the controls
+  limits-passed : limits_of desk.serial sight plan (Ok (Some document)) ≡ Ok tt →
+      made_effect desk sight plan (Ok (Some document))
+      ≡ work_effect desk.setting desk.serial sight.drawn sight plan (Some document)
+  limits-passed passed = ap (λ (r : Result (Unit {0}) Refusal). r >>= λ _.
+      work_effect desk.setting desk.serial sight.drawn sight plan (Some document)) passed
+
   pub put-comes : (records : ℕ) → AreKept desk.serial.documents desk.serial.top records →
       HasShortLists document → IsPut plan.source →
       limits_of desk.serial sight plan (Ok (Some document)) ≡ Ok tt →
+      control_fault desk.setting plan (with_document document desk.serial.documents) sight.before
+      (Some document) ≡ None →
       Comes desk (or_stop (made_effect desk sight plan (Ok (Some document))))
       (Changes (Put document)
       (Stands document.doc.active document.doc.number document.doc.state))
-  put-comes records kept short put passed =
-      subst (λ (r : Result (Unit {0}) Refusal). Comes desk (or_stop (r >>= λ _. Ok
-      (effect_with desk.serial sight.drawn plan
-      (record { before = sight.before; after = Some document }))))
+  unfolding work_effect
+  put-comes records kept short put passed held =
+      let P : Result Effect Refusal → Type 0 = λ effect. Comes desk (or_stop effect)
       (Changes (Put document)
-      (Stands document.doc.active document.doc.number document.doc.state))) (sym passed)
+      (Stands document.doc.active document.doc.number document.doc.state)) in
+      subst P (sym (limits-passed passed
+      ∙ ap (λ (f : Option Refusal). none_or f >>= λ _. Ok (effect_with desk.serial sight.drawn plan
+      (record { before = sight.before; after = Some document }))) held))
       (put-leaves records kept short put
       (limits-none desk.serial sight plan document passed))
+
+  -- a control that fails refuses the document
+  pub control-comes : (refusal : Refusal) →
+      limits_of desk.serial sight plan (Ok (Some document)) ≡ Ok tt →
+      control_fault desk.setting plan (with_document document desk.serial.documents) sight.before
+      (Some document) ≡ Some refusal →
+      Comes desk (or_stop (made_effect desk sight plan (Ok (Some document))))
+      (Replies (Refused refusal))
+  unfolding work_effect
+  control-comes refusal passed failed =
+      let P : Result Effect Refusal → Type 0 = λ effect. Comes desk (or_stop effect)
+      (Replies (Refused refusal)) in
+      subst P (sym (limits-passed passed
+      ∙ ap (λ (f : Option Refusal). none_or f >>= λ _. Ok (effect_with desk.serial sight.drawn plan
+      (record { before = sight.before; after = Some document }))) failed)) refl
 
 -- ---- a document that is removed
 
@@ -237,13 +268,23 @@ module _ (desk : Desk) (sight : Sight) (plan : Plan) (seen : IsSightOf desk.seri
         may = tt;
       }
 
+  -- nothing is controlled where a document is removed
+  uncontrolled : control_fault desk.setting plan
+      (documents_with sight.before None desk.serial.documents) sight.before None ≡ None
+  uncontrolled = ap (λ (p : Source). first_control desk.setting.config
+      (controls_of desk.setting (record plan { source = p }))
+      (documents_with sight.before None desk.serial.documents) sight.before None) removed
+
   pub remove-comes : limits_of desk.serial sight plan (Ok None) ≡ Ok tt →
       Comes desk (or_stop (made_effect desk sight plan (Ok None)))
       (Changes (Remove plan.doc.number) (Swept plan.doc.number))
+  unfolding work_effect
   remove-comes passed =
-      subst (λ (r : Result (Unit {0}) Refusal). Comes desk (or_stop (r >>= λ _. Ok
-      (effect_with desk.serial sight.drawn plan
-      (record { before = sight.before; after = None }))))
-      (Changes (Remove plan.doc.number) (Swept plan.doc.number))) (sym passed)
+      let P : Result Effect Refusal → Type 0 = λ effect. Comes desk (or_stop effect)
+      (Changes (Remove plan.doc.number) (Swept plan.doc.number)) in
+      subst P (sym (ap (λ (r : Result (Unit {0}) Refusal). r >>= λ _.
+      work_effect desk.setting desk.serial sight.drawn sight plan None) passed
+      ∙ ap (λ (f : Option Refusal). none_or f >>= λ _. Ok (effect_with desk.serial sight.drawn plan
+      (record { before = sight.before; after = None }))) uncontrolled))
       (remove-leaves sight.before refl
       (subst (RemovesOne sight.before) removed suits.removes))

@@ -3,6 +3,7 @@ use Rattle.std.specs.Prelude.{◌≡◌, ℕ, ◌≤◌, List, [], All, length}
 use Rattle.reg_base.specs.declared.records.Document.{Document}
 use Rattle.cfg_model.specs.declared.config.Config.{Config}
 use Rattle.cfg_model.specs.Limits.{IsWithinLimits}
+use Rattle.rule_lang.specs.declared.rules.Rules.{Rules}
 use Rattle.doc_store.specs.Stores.{Stored}
 use Rattle.desk_plans.specs.ShortLists.{HasShortLists}
 use Rattle.desk_model.specs.Limits.{records_in, most_documents, most_kept_records}
@@ -16,8 +17,15 @@ pub record AreKept (documents : List Document) (top records : ℕ) : Type 0 wher
   pub counted : records ≡ records_in documents
   pub within : records ≤ most_kept_records
 
--- what the desk keeps: a configuration within its limits, and a store in which nothing is staged
-pub record IsKept (config : Config) (store : Stored) (top records : ℕ) : Type 0 where
+-- no document type has more than 64 statements
+abbrev pub AreFewStatements : Rules → Type 0
+AreFewStatements rules = All (λ statements. length statements ≤ 64) rules.kinds
+
+-- what the desk keeps: a configuration within its limits, few statements a type, and a store in
+-- which nothing is staged
+pub record IsKept (config : Config) (rules : Rules) (store : Stored) (top records : ℕ)
+    : Type 0 where
   pub limits : IsWithinLimits config
+  pub statements : AreFewStatements rules
   pub staged : store.staged ≡ []
   pub kept : AreKept store.documents top records

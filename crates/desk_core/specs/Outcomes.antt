@@ -16,11 +16,12 @@ use Rattle.desk_words.specs.declared.request.Request.{Request}
 use Rattle.desk_words.specs.declared.reply.Refusal.{Refusal}
 use Rattle.desk_model.specs.declared.plan.Plan.{Plan}
 use Rattle.desk_model.specs.declared.plan.Source.{Source}
-use Rattle.desk_model.specs.declared.plan.Source.TheVariants.{ByHand, Kept, Nothing, Removed}
+use Rattle.desk_model.specs.declared.plan.Source.TheVariants.{ByHand, ByRules, Kept, Nothing}
+use Rattle.desk_model.specs.declared.plan.Source.TheVariants.{Removed}
 use Rattle.desk_model.specs.Plans.{Sight}
 use Rattle.desk_model.specs.Limits.{limits_of}
-use Rattle.desk_model.specs.Effects.{Tests, effect_with}
-use Rattle.desk_model.specs.Serial.{deed_effect, plan_effect}
+use Rattle.desk_model.specs.Effects.{Tests}
+use Rattle.desk_model.specs.Serial.{deed_effect, plan_effect, work_effect}
 use Rattle.desk_model.specs.Desk.{Event, reply_at, tests_of, meaning_at, command_at}
 use Rattle.desk_core.specs.declared.outcome.Change.{Change}
 use Rattle.desk_core.specs.declared.outcome.Outcome.{Outcome}
@@ -84,14 +85,12 @@ planned_effect desk tests sight planned =
 abbrev pub made_effect : Desk → Sight → Plan → Result (Option Document) Refusal →
     Result Effect Refusal
 made_effect desk sight plan made = limits_of desk.serial sight plan made >>= λ _. made >>=
-    λ after. Ok (effect_with desk.serial sight.drawn plan (record {
-      before = sight.before;
-      after = after;
-    }))
+    work_effect desk.setting desk.serial sight.drawn sight plan
 
 -- a plan's document is put, and not removed
 abbrev pub IsPut : Source → Type 0
 IsPut (ByHand given) = ⊤
+IsPut ByRules = ⊤
 IsPut Kept = ⊤
 IsPut Nothing = ⊤
 IsPut Removed = ⊥

@@ -6,7 +6,7 @@ ghost use Rattle.desk_model.specs.Clerks.{is_batch as is_batch_name, rights_of};
 ghost use Rattle.desk_model.specs.Meanings.{meaning_of};
 
 use cfg_model::Config;
-use desk_words::Request;
+use desk_words::{Post, Request};
 use reg_base::{Name, Right};
 
 // The clerk of a request.
@@ -14,7 +14,8 @@ pub(crate) fn clerk_of(request: &Request) -> &Name
     ensures { (config : ConfigOf) → result.now ≡ (meaning_of config request.now).clerk }
 {
     match request {
-        Request::Write(write) => &write.clerk,
+        Request::Write(write) | Request::Post(Post::Content(write)) => &write.clerk,
+        Request::Post(Post::Standing(document)) | Request::Unpost(document) => &document.clerk,
         Request::Mark(switch) | Request::Activity(switch) => &switch.clerk,
         Request::Manual(manual) => &manual.clerk,
         Request::Close(close) => &close.clerk,
@@ -30,7 +31,7 @@ pub(crate) fn right_of(request: &Request) -> Right
 {
     match request {
         Request::Write(_) => Right::Write,
-        Request::Mark(_) => Right::Post,
+        Request::Post(_) | Request::Unpost(_) | Request::Mark(_) => Right::Post,
         Request::Manual(_) | Request::Activity(_) => Right::Manual,
         Request::Close(_) | Request::Sweep(_) => Right::Admin,
         Request::Balance(_) | Request::Doc(_) => Right::Read,
@@ -42,7 +43,8 @@ pub(crate) fn number_of(request: &Request) -> Option<u32>
     ensures { (config : ConfigOf) → result ≡ (meaning_of config request.now).number }
 {
     match request {
-        Request::Write(write) => Some(write.no),
+        Request::Write(write) | Request::Post(Post::Content(write)) => Some(write.no),
+        Request::Post(Post::Standing(document)) | Request::Unpost(document) => Some(document.no),
         Request::Mark(switch) | Request::Activity(switch) => Some(switch.no),
         Request::Manual(manual) => Some(manual.no),
         Request::Close(close) => Some(close.no),

@@ -6,11 +6,13 @@ ghost use Rattle.std.specs.Option.{ForSome, option_copied};
 ghost use Rattle.std.specs.Prelude.{option_and_then};
 ghost use Rattle.desk_words.specs.declared.request.Request.{Request as RequestOf};
 ghost use Rattle.desk_words.specs.declared.request.Request.TheVariants as RequestIs;
+ghost use Rattle.desk_words.specs.declared.request.Post.TheVariants as PostIs;
 ghost use Rattle.desk_words.specs.declared.reply.Refusal.{Refusal as RefusalOf};
 ghost use Rattle.desk_words.specs.WellFormed.{IsRequest};
 ghost use Rattle.desk_model.specs.declared.plan.Plan.{Plan as PlanOf};
 ghost use Rattle.desk_model.specs.Plans.{Meaning};
 ghost use Rattle.desk_model.specs.Stops.{or_stop};
+ghost use Rattle.desk_model.specs.Controls.{controls_of as controls_of_it};
 ghost use Rattle.desk_model.specs.Serial.{plan_effect};
 ghost use Rattle.desk_model.specs.declared.plan.Source.TheVariants.{Removed};
 ghost use Rattle.desk_model.specs.Limits.{records_before, record_count as record_count_of};
@@ -21,16 +23,18 @@ ghost use Rattle.desk_plans.specs.Sights.{sight_view, Suits};
 ghost use Rattle.desk_core.specs.SeenStates.{sight_at, drawn_for, IsSightOf};
 ghost use Rattle.desk_plans.specs.Tries.{Tries};
 
+use crate::books::Books;
 use crate::clerks::{clerk_of, is_allowed, is_clerk, right_of};
+use crate::controls::{controls_of, failed_control, statements_for};
 use crate::desk::Desk;
 use crate::numbers::number_reply;
 use crate::outcome::{Outcome, close_outcome, document_outcome, refusal_outcome, removal_outcome};
-use desk_model::Plan;
+use desk_model::{Plan, Source};
 use desk_plans::{
-    PartFault, Sight, Tried, document_from, plan_activity, plan_manual, plan_mark, plan_sweep,
-    plan_write, record_count,
+    PartFault, Sight, Tried, document_from, plan_activity, plan_manual, plan_mark, plan_post,
+    plan_standing, plan_sweep, plan_unpost, plan_write, record_count,
 };
-use desk_words::{Manual, Refusal, Request, Sweep, Switch, Write};
+use desk_words::{Manual, Post, Refusal, Request, StandingDocument, Sweep, Switch, Write};
 use reg_base::{Code, Document, Memory};
 use std::alloc::Global;
 
@@ -62,6 +66,8 @@ impl Desk {
     {
         match request {
             Request::Write(write) => self.write_outcome(alloc, write),
+            Request::Post(post) => self.post_outcome(alloc, post),
+            Request::Unpost(document) => self.unpost_outcome(alloc, document),
             Request::Mark(switch) => self.mark_outcome(alloc, switch),
             Request::Manual(manual) => self.manual_outcome(alloc, manual),
             Request::Activity(switch) => self.activity_outcome(alloc, switch),
@@ -80,6 +86,50 @@ impl Desk {
     {
         let sight = self.sight(write.doc, &write.key);
         let plan = plan_write(alloc, &self.config, write, &sight);
+        self.planned(alloc, &sight, plan)
+    }
+
+    // What it comes to that a document is posted, with its content or as it stands.
+    fn post_outcome(&self, alloc: Global, post: &Post) -> Result<Outcome, Memory>
+        ensures { IfOk result
+            (Comes self.now.desk (or_stop (deed_at self.now.desk (RequestIs.Post post.now)))) }
+    {
+        match post {
+            Post::Content(write) => self.content_outcome(alloc, write),
+            Post::Standing(document) => self.standing_outcome(alloc, document),
+        }
+    }
+
+    // What it comes to that a document is posted with its content.
+    #[tactic(auto, unfolding(desk_model::specs::Serial::change_effect))]
+    fn content_outcome(&self, alloc: Global, write: &Write) -> Result<Outcome, Memory>
+        ensures { IfOk result (Comes self.now.desk
+            (or_stop (deed_at self.now.desk (RequestIs.Post (PostIs.Content write.now))))) }
+    {
+        let sight = self.sight(write.doc, &write.key);
+        let plan = plan_post(alloc, &self.config, write, &sight);
+        self.planned(alloc, &sight, plan)
+    }
+
+    // What it comes to that a document is posted as it stands.
+    #[tactic(auto, unfolding(desk_model::specs::Serial::change_effect))]
+    fn standing_outcome(&self, alloc: Global, document: &StandingDocument) -> Result<Outcome, Memory>
+        ensures { IfOk result (Comes self.now.desk
+            (or_stop (deed_at self.now.desk (RequestIs.Post (PostIs.Standing document.now))))) }
+    {
+        let sight = self.sight(Some(document.doc), &None);
+        let plan = plan_standing(alloc, &sight);
+        self.planned(alloc, &sight, plan)
+    }
+
+    // What it comes to that a document loses its records.
+    #[tactic(auto, unfolding(desk_model::specs::Serial::change_effect))]
+    fn unpost_outcome(&self, alloc: Global, document: &StandingDocument) -> Result<Outcome, Memory>
+        ensures { IfOk result
+            (Comes self.now.desk (or_stop (deed_at self.now.desk (RequestIs.Unpost document.now)))) }
+    {
+        let sight = self.sight(Some(document.doc), &None);
+        let plan = plan_unpost(alloc, &sight);
         self.planned(alloc, &sight, plan)
     }
 
@@ -204,27 +254,53 @@ impl Desk {
     {
         let number = plan.doc.number;
         let lines = plan.doc.lines.len();
-        match document_from(alloc, &self.config, sight.before, plan) {
-            Ok(Some(document)) => Ok(self.put_outcome(sight, lines, document)),
+        let controls = self.controls_of_plan(alloc, &plan)?;
+        let books = Books::new(&self.config, &self.store);
+        match document_from(alloc, &self.config, &self.rules, &books, sight.before, plan) {
+            Ok(Some(document)) => self.put_outcome(alloc, sight, lines, &controls, document),
             Ok(None) => Ok(self.remove_outcome(sight, lines, number)),
             Err(PartFault::Refused(refusal)) => Ok(self.refused_outcome(sight, lines, refusal)),
             Err(PartFault::Memory) => Err(Memory),
         }
     }
 
-    // What a document comes to that a plan made: it is put, where no limit is passed.
-    fn put_outcome(&self, sight: &Sight<'_>, lines: usize, document: Document) -> Outcome
+    // What the rules of a document's type control, where a plan posts it by them.
+    fn controls_of_plan(&self, alloc: Global, plan: &Plan) -> Result<Vec<(u8, u8)>, Memory>
+        ensures { IfOk result
+            (λ controls. controls.items ≡ controls_of_it self.now.desk.setting plan.now) }
+    {
+        match plan.source {
+            Source::ByRules => controls_of(alloc, statements_for(&self.rules, &plan.doc)),
+            _ => Ok(Vec::new(alloc)),
+        }
+    }
+
+    // What a document comes to that a plan made: it is put, where no limit is passed and nothing
+    // that its rules control is below zero.
+    fn put_outcome(
+        &self,
+        alloc: Global,
+        sight: &Sight<'_>,
+        lines: usize,
+        controls: &[(u8, u8)],
+        document: Document,
+    ) -> Result<Outcome, Memory>
         requires seen { IsSightOf self.now.desk.serial (sight_view sight.now) }
-        requires short { HasShortLists document }
+        requires bounds { HasShortLists document }
         ensures { (plan : PlanOf) → length plan.doc.lines ≡ lines → plan.doc ≡ document.doc
             → Suits (sight_view sight.now) plan → IsPut plan.source
-            → Comes self.now.desk (or_stop (made_effect self.now.desk (sight_view sight.now) plan
-            (Ok (Some document)))) result }
+            → controls.now ≡ controls_of_it self.now.desk.setting plan
+            → IfOk result (Comes self.now.desk (or_stop (made_effect self.now.desk
+            (sight_view sight.now) plan (Ok (Some document))))) }
     {
         let records = self.records + growth(sight.before, &document);
-        match self.limit_passed(sight, lines, records) {
-            Some(refusal) => refusal_outcome(refusal),
-            None => document_outcome(document),
+        if let Some(refusal) = self.limit_passed(sight, lines, records) {
+            return Ok(refusal_outcome(refusal));
+        }
+        let documents = self.store.documents();
+        match failed_control(alloc, &self.config, documents, controls, sight.before, &document)? {
+            Some(refusal) => Ok(refusal_outcome(refusal)),
+            None => Ok(document_outcome(document)),
         }
     }
 

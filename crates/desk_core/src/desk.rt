@@ -16,6 +16,7 @@ ghost use Rattle.desk_model.specs.Desk.{step as step_of};
 ghost use Rattle.desk_model.specs.Laws.{IsRefusal};
 ghost use Rattle.desk_core.specs.DeskViews.{IsStep, MayChange, changed, desk_with};
 ghost use Rattle.desk_core.specs.DeskViews.{with_request};
+ghost use Rattle.desk_core.specs.Invariants.{AreFewStatements};
 ghost use Rattle.desk_core.specs.Outcomes.{Prepares};
 
 use crate::numbers::{copy_request, keep_request};
@@ -25,6 +26,7 @@ use desk_model::{Last, refusals_change_nothing, replies_have_scales};
 use desk_words::{Acknowledgement, Reply, Request};
 use doc_store::Store;
 use reg_base::{Date, Memory};
+use rule_lang::Rules;
 use std::alloc::Global;
 use std::marker::Model;
 
@@ -39,6 +41,7 @@ pub enum StepEnd {
 #[derive(Drop)]
 pub struct Desk {
     pub(crate) config: Config,
+    pub(crate) rules: Rules,
     pub(crate) store: Store,
     // How many records and entries the documents have.
     pub(crate) records: u32,
@@ -56,7 +59,7 @@ impl Model for Desk {
 
     ghost view = { λ d. record {
       desk = record {
-        setting = record { config = d.config };
+        setting = record { config = d.config; rules = d.rules };
         serial = record {
           documents = d.store.documents;
           top = d.top;
@@ -67,18 +70,23 @@ impl Model for Desk {
       spare_lasts = vec_capacity d.lasts - vec_len d.lasts;
     } };
 
-    ghost invariant = { λ d. IsKept d.config d.store d.top d.records };
+    ghost invariant = { λ d. IsKept d.config d.rules d.store d.top d.records };
 }
 
 impl Desk {
-    /// A desk without documents.
-    pub fn open(alloc: Global, config: Config) -> Result<Desk, Memory>
-        requires { IsWithinLimits config }
-        ensures { IfOk result (λ desk. desk.desk ≡ first_desk (record { config = config })) }
+    /// A desk without documents, which posts by these rules.
+    pub fn open(alloc: Global, config: Config, rules: Rules) -> Result<Desk, Memory>
+        requires limits { IsWithinLimits config }
+        requires statements { AreFewStatements rules }
+        ensures { IfOk result (λ desk. desk.desk ≡ first_desk (record {
+          config = config;
+          rules = rules;
+        })) }
     {
         let store = Store::new(alloc, 0, 0)?;
         Ok(Desk {
             config,
+            rules,
             store,
             records: 0,
             top: 0,

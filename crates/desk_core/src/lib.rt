@@ -13,8 +13,10 @@
 //! Leaves open: when memory is wanted.
 #![tactic(auto)]
 
+mod books;
 mod changes;
 mod clerks;
+mod controls;
 mod deeds;
 mod desk;
 mod limits;

@@ -5,7 +5,7 @@ use Rattle.std.specs.Prelude.{Result, Ok, Err}
 use Rattle.std.proofs.KnownBytes.{Appends-nil}
 use Rattle.std.proofs.Math.Seq.{take-append-add}
 use Rattle.reg_base.specs.declared.line.Line.{Line}
-use Rattle.cfg_model.specs.declared.config.Config.{Config}
+use Rattle.desk_model.specs.State.{Setting}
 use Rattle.desk_model.specs.State.{Desk}
 use Rattle.desk_run.specs.declared.fault.Fault.{Fault}
 use Rattle.desk_run.specs.declared.fault.Fault.TheVariants.{Usage, Configuration, Rules, Memory}
@@ -64,49 +64,49 @@ laws_part desk after before now stops =
     }
 
 file_laws : (words : List (List ℕ)) (shelf shelf_now : ShelfState) (before now : Streams)
-    (config : Config) (name : List ℕ) (end : Result (Unit {0}) Fault)
-    → HoldsConfig words shelf config → IsRun words name
+    (setting : Setting) (name : List ℕ) (end : Result (Unit {0}) Fault)
+    → HoldsConfig words shelf setting → IsRun words name
     → RunsFile name shelf shelf_now before now end
-    → KeepsLaws (desk_under config) before now
-file_laws words shelf shelf_now before now config name (Ok done) holds is_run run =
-    let same = held_config words shelf config name run.config holds is_run run.accepted in
-    rw (sym same) (laws_lines (desk_under run.config) run.run.0 run.run.1.lines before now
+    → KeepsLaws (desk_under setting) before now
+file_laws words shelf shelf_now before now setting name (Ok done) holds is_run run =
+    let same = held_config words shelf setting name run.setting holds is_run run.accepted in
+    rw (sym same) (laws_lines (desk_under run.setting) run.run.0 run.run.1.lines before now
     run.run.1.answered)
-file_laws words shelf shelf_now before now config name (Err Usage) holds is_run run = absurd run
-file_laws words shelf shelf_now before now config name (Err (Configuration fault)) holds is_run
-    run = laws_none (desk_under config) before now run.1
-file_laws words shelf shelf_now before now config name (Err (Rules fault)) holds is_run run =
-    laws_none (desk_under config) before now run.1
-file_laws words shelf shelf_now before now config name (Err Memory) holds is_run (inl keeps) =
-    laws_none (desk_under config) before now keeps
-file_laws words shelf shelf_now before now config name (Err Memory) holds is_run (inr run) =
-    let same = held_config words shelf config name run.config holds is_run run.accepted in
-    rw (sym same) (laws_lines (desk_under run.config) run.run.0 run.run.1.lines before now
+file_laws words shelf shelf_now before now setting name (Err Usage) holds is_run run = absurd run
+file_laws words shelf shelf_now before now setting name (Err (Configuration fault)) holds is_run
+    run = laws_none (desk_under setting) before now run.1
+file_laws words shelf shelf_now before now setting name (Err (Rules fault)) holds is_run run =
+    laws_none (desk_under setting) before now run.1
+file_laws words shelf shelf_now before now setting name (Err Memory) holds is_run (inl keeps) =
+    laws_none (desk_under setting) before now keeps
+file_laws words shelf shelf_now before now setting name (Err Memory) holds is_run (inr run) =
+    let same = held_config words shelf setting name run.setting holds is_run run.accepted in
+    rw (sym same) (laws_lines (desk_under run.setting) run.run.0 run.run.1.lines before now
     run.run.1.answered)
-file_laws words shelf shelf_now before now config name (Err Read) holds is_run run =
-    let same = held_config words shelf config name run.config holds is_run run.accepted in
-    rw (sym same) (laws_lines (desk_under run.config) run.run.0 run.run.1.lines before now
+file_laws words shelf shelf_now before now setting name (Err Read) holds is_run run =
+    let same = held_config words shelf setting name run.setting holds is_run run.accepted in
+    rw (sym same) (laws_lines (desk_under run.setting) run.run.0 run.run.1.lines before now
     run.run.1.answered)
-file_laws words shelf shelf_now before now config name (Err Write) holds is_run run =
-    let same = held_config words shelf config name run.config holds is_run run.accepted in
-    rw (sym same) (laws_part (desk_under run.config) run.run.0 before now run.run.1)
-file_laws words shelf shelf_now before now config name (Err File) holds is_run run =
-    laws_none (desk_under config) before now run.1
-file_laws words shelf shelf_now before now config name (Err FileTooLong) holds is_run run =
-    laws_none (desk_under config) before now run.1
-file_laws words shelf shelf_now before now config name (Err InputTooLong) holds is_run run =
-    let same = held_config words shelf config name run.config holds is_run run.accepted in
-    rw (sym same) (laws_lines (desk_under run.config) run.run.0 run.run.1.lines before now
+file_laws words shelf shelf_now before now setting name (Err Write) holds is_run run =
+    let same = held_config words shelf setting name run.setting holds is_run run.accepted in
+    rw (sym same) (laws_part (desk_under run.setting) run.run.0 before now run.run.1)
+file_laws words shelf shelf_now before now setting name (Err File) holds is_run run =
+    laws_none (desk_under setting) before now run.1
+file_laws words shelf shelf_now before now setting name (Err FileTooLong) holds is_run run =
+    laws_none (desk_under setting) before now run.1
+file_laws words shelf shelf_now before now setting name (Err InputTooLong) holds is_run run =
+    let same = held_config words shelf setting name run.setting holds is_run run.accepted in
+    rw (sym same) (laws_lines (desk_under run.setting) run.run.0 run.run.1.lines before now
     run.run.1.answered)
 
 -- what a call answered under the configuration that its file holds
 pub call_laws : (words : List (List ℕ)) (shelf shelf_now : ShelfState) (before now : Streams)
     (end : Result (Unit {0}) Fault)
     → Ends words shelf shelf_now before now end
-    → (config : Config) → HoldsConfig words shelf config
-    → KeepsLaws (desk_under config) before now
-call_laws words shelf shelf_now before now end ends config holds = elim ends [
+    → (setting : Setting) → HoldsConfig words shelf setting
+    → KeepsLaws (desk_under setting) before now
+call_laws words shelf shelf_now before now end ends setting holds = elim ends [
   | inl usage ↦ absurd (usage.0 holds.name holds.is_run)
   | inr run ↦
-      file_laws words shelf shelf_now before now config run.0 end holds run.1 run.2
+      file_laws words shelf shelf_now before now setting run.0 end holds run.1 run.2
 ]

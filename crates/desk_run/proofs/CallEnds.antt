@@ -2,7 +2,7 @@
 use Rattle.std.proofs.Common.{◌≡◌, ℕ, List, [], ◌∷◌, length, sym, ap, ◌∙◌, inl, inr, arith}
 use Rattle.std.specs.Prelude.{Result, Ok, Err, ◌↔◌, ◌≢◌, ◌<◌, ◌≤◌, get_or, map, true, bytes_eq}
 use Rattle.std.proofs.lemmas.Slice.Eq.{bytes_eq-Decides}
-use Rattle.cfg_model.specs.declared.config.Config.{Config}
+use Rattle.desk_model.specs.State.{Setting}
 use Rattle.desk_model.specs.State.{Desk}
 use Rattle.desk_run.specs.declared.run.RunEnd.{RunEnd}
 use Rattle.desk_run.specs.declared.run.RunEnd.TheVariants.{Memory as RunMemory, Read as RunRead}
@@ -21,18 +21,18 @@ use Rattle.desk_run.specs.Inputs.{desk_under}
 
 -- a run that ended early is what the call comes to
 pub RunsFile-fault : (name : List ℕ) (shelf shelf_now : ShelfState) (before now : Streams)
-    (end : RunEnd) (config : Config)
-    → ReadsAs shelf.files name (λ bytes. IsAccepted bytes config)
-    → RunsWith config before now (Err end)
+    (end : RunEnd) (setting : Setting)
+    → ReadsAs shelf.files name (λ bytes. IsAccepted bytes setting)
+    → RunsWith setting before now (Err end)
     → RunsFile name shelf shelf_now before now (Err (run_fault end))
-RunsFile-fault name shelf shelf_now before now RunMemory config accepted run =
-    inr (record { config = config; accepted = accepted; run = run })
-RunsFile-fault name shelf shelf_now before now RunRead config accepted run =
-    record { config = config; accepted = accepted; run = run }
-RunsFile-fault name shelf shelf_now before now RunWrite config accepted run =
-    record { config = config; accepted = accepted; run = run }
-RunsFile-fault name shelf shelf_now before now RunTooLong config accepted run =
-    record { config = config; accepted = accepted; run = run }
+RunsFile-fault name shelf shelf_now before now RunMemory setting accepted run =
+    inr (record { setting = setting; accepted = accepted; run = run })
+RunsFile-fault name shelf shelf_now before now RunRead setting accepted run =
+    record { setting = setting; accepted = accepted; run = run }
+RunsFile-fault name shelf shelf_now before now RunWrite setting accepted run =
+    record { setting = setting; accepted = accepted; run = run }
+RunsFile-fault name shelf shelf_now before now RunTooLong setting accepted run =
+    record { setting = setting; accepted = accepted; run = run }
 
 -- only a fault of usage has the status 2
 status_is_usage : (name : List ℕ) (shelf shelf_now : ShelfState) (before now : Streams)
@@ -80,7 +80,7 @@ pub word_is : (bytes word : List ℕ) → bytes_eq bytes word ≡ true → bytes
 word_is bytes word same = (bytes_eq-Decides bytes word).0 same
 
 -- a run from the first desk under a configuration
-pub RunsWith-opened : (desk : Desk) (config : Config) (after : Desk) (before now : Streams)
+pub RunsWith-opened : (desk : Desk) (setting : Setting) (after : Desk) (before now : Streams)
     (end : Result (Unit {0}) RunEnd)
-    → desk ≡ desk_under config → Runs desk after before now end → RunsWith config before now end
-RunsWith-opened desk config after before now end e runs = (after, rw e at runs)
+    → desk ≡ desk_under setting → Runs desk after before now end → RunsWith setting before now end
+RunsWith-opened desk setting after before now end e runs = (after, rw e at runs)

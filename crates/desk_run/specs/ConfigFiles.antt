@@ -5,6 +5,8 @@ use Rattle.reg_io.specs.Counts.{Rose}
 use Rattle.reg_io.specs.Files.{file_named, file_read}
 use Rattle.reg_io.specs.declared.shelf.ShelfFault.TheVariants.{TooLong}
 use Rattle.cfg_model.specs.declared.config.Config.{Config}
+use Rattle.rule_lang.specs.declared.rules.Rules.{Rules as RulesOf}
+use Rattle.desk_model.specs.State.{Setting}
 use Rattle.cfg_model.specs.Reading.{read_config}
 use Rattle.rule_lang.specs.declared.statement.Statement.{Statement}
 use Rattle.rule_lang.specs.declared.fault.RuleFault.{RuleFault}
@@ -45,11 +47,10 @@ pub record ReadsAs (files : Option (List (List ℕ × List ℕ))) (name : List �
   pub has : HasBytes files name bytes
   pub read_as : read bytes
 
--- the bytes of a file are accepted as this configuration: it is read, and so are its rules
-abbrev pub IsAccepted : List ℕ → Config → Type 0
-IsAccepted bytes config =
-    (read_config bytes ≡ Ok config)
-    × (rules : List (List Statement)) × (rules_of config ≡ Ok rules)
+-- the bytes of a file are accepted as this configuration with these rules: both are read
+abbrev pub IsAccepted : List ℕ → Setting → Type 0
+IsAccepted bytes setting = (read_config bytes ≡ Ok setting.config)
+    × (rules_of setting.config ≡ Ok setting.rules.kinds)
 
 -- the bytes of a file are a configuration whose rules have this fault
 abbrev pub RefusesRules : List ℕ → RuleFault → Type 0
@@ -57,9 +58,9 @@ RefusesRules bytes fault =
     (config : Config) × (read_config bytes ≡ Ok config) × (rules_of config ≡ Err fault)
 
 -- what reading the configuration of this name comes to
-abbrev pub ReadsConfig : List ℕ → ShelfState → ShelfState → Result Config Fault → Type 0
-ReadsConfig name before now (Ok config) = ReadsAs before.files name
-    (λ bytes. IsAccepted bytes config)
+abbrev pub ReadsConfig : List ℕ → ShelfState → ShelfState → Result (Config × RulesOf) Fault → Type 0
+ReadsConfig name before now (Ok found) = ReadsAs before.files name
+    (λ bytes. IsAccepted bytes (record { config = found.0; rules = found.1 }))
 ReadsConfig name before now (Err (Rules fault)) = ReadsAs before.files name
     (λ bytes. RefusesRules bytes fault)
 ReadsConfig name before now (Err (Configuration fault)) = ReadsAs before.files name

@@ -4,7 +4,7 @@ use Rattle.std.specs.Prelude.{Some, Result, Ok, Err}
 use Rattle.std.specs.Io.KnownBytes.{Appends}
 use Rattle.reg_io.specs.Counts.{AppendsPrefix, Rose}
 use Rattle.reg_io.specs.Files.{file_named, file_read}
-use Rattle.cfg_model.specs.declared.config.Config.{Config}
+use Rattle.desk_model.specs.State.{Setting}
 use Rattle.cfg_model.specs.Reading.{read_config}
 use Rattle.reg_base.specs.declared.line.Line.{Line}
 use Rattle.desk_model.specs.State.{Desk}
@@ -33,15 +33,15 @@ abbrev pub AskNothing : List (List ℕ) → Type 0
 AskNothing words = (name : List ℕ) → words ≢ codes "run" ∷ name ∷ []
 
 -- the lines are run from the first desk under a configuration to this end
-abbrev pub RunsWith : Config → Streams → Streams → Result (Unit {0}) RunEnd → Type 0
-RunsWith config before now end = (after : Desk) × Runs (desk_under config) after before now end
+abbrev pub RunsWith : Setting → Streams → Streams → Result (Unit {0}) RunEnd → Type 0
+RunsWith setting before now end = (after : Desk) × Runs (desk_under setting) after before now end
 
 -- the configuration of this name is accepted, and the lines are run under it to this end
 pub record RunsUnder (name : List ℕ) (files : Option (List (List ℕ × List ℕ)))
     (before now : Streams) (end : Result (Unit {0}) RunEnd) : Type 0 where
-  pub config : Config
-  pub accepted : ReadsAs files name (λ bytes. IsAccepted bytes config)
-  pub run : RunsWith config before now end
+  pub setting : Setting
+  pub accepted : ReadsAs files name (λ bytes. IsAccepted bytes setting)
+  pub run : RunsWith setting before now end
 
 -- nothing was written to the output
 abbrev pub KeepsOut : Streams → Streams → Type 0
@@ -89,14 +89,14 @@ Complains words (Err fault) before now faults faults_now =
     WritesLine (fault_line words fault) before now faults faults_now
 
 -- the words ask for a run with a file that holds this configuration, with rules that are accepted
-pub record HoldsConfig (words : List (List ℕ)) (shelf : ShelfState) (config : Config) : Type 0 where
+pub record HoldsConfig (words : List (List ℕ)) (shelf : ShelfState) (setting : Setting) : Type 0 where
   pub name : List ℕ
   pub is_run : IsRun words name
   pub all : List (List ℕ × List ℕ)
   pub files : shelf.files ≡ Some all
   pub bytes : List ℕ
   pub read : file_read (file_named name all) most_config_bytes ≡ Ok bytes
-  pub accepted : IsAccepted bytes config
+  pub accepted : IsAccepted bytes setting
 
 -- first lines of the input were answered, the last of them perhaps in part, and the laws hold among
 -- them
@@ -110,8 +110,8 @@ pub record KeepsLaws (desk : Desk) (before now : Streams) : Type 0 where
 -- nothing stands in the way of a run of this input: the words, the file and the input are as they
 -- should be, and no count rose
 pub record MayRun (words : List (List ℕ)) (shelf shelf_now : ShelfState) (before now : Streams)
-    (config : Config) (input : List ℕ) : Type 0 where
-  pub holds : HoldsConfig words shelf config
+    (setting : Setting) (input : List ℕ) : Type 0 where
+  pub holds : HoldsConfig words shelf setting
   pub input_is : before.left ≡ Some input
   pub within : length input ≤ most_input_bytes
   pub file_calls : ¬ Rose shelf.faults shelf_now.faults
@@ -119,10 +119,10 @@ pub record MayRun (words : List (List ℕ)) (shelf shelf_now : ShelfState) (befo
   pub writes : ¬ Rose before.write_faults now.write_faults
 
 -- then the status is 0 and the output grew by exactly the answers, or memory was refused
-abbrev pub Succeeds : Streams → Streams → Config → List ℕ → ℕ → Type 0
-Succeeds before now config input status =
+abbrev pub Succeeds : Streams → Streams → Setting → List ℕ → ℕ → Type 0
+Succeeds before now setting input status =
     ((status ≡ 0) × Appends before.taken now.taken
-    (answers (desk_under config) input))
+    (answers (desk_under setting) input))
     ⊎ (status ≡ 4)
 
 -- a top call finished with this status: it is that of an end that has its cause, with its
@@ -134,6 +134,6 @@ pub record Finishes (words : List (List ℕ)) (shelf shelf_now : ShelfState)
   pub status_is : status ≡ end_status end
   pub ends : Ends words shelf shelf_now before now end
   pub complains : Complains words end err err_now err_faults err_faults_now
-  pub succeeds : (config : Config) (input : List ℕ)
-      → MayRun words shelf shelf_now before now config input
-      → Succeeds before now config input status
+  pub succeeds : (setting : Setting) (input : List ℕ)
+      → MayRun words shelf shelf_now before now setting input
+      → Succeeds before now setting input status

@@ -1,6 +1,7 @@
 //! The top call: what the words ask, on the objects that are handed in.
 ghost use Rattle.std.specs.Prelude.{◌≡◌, ◌↔◌, map, string_bytes, IfOk};
-ghost use Rattle.cfg_model.specs.declared.config.Config.{Config};
+ghost use Rattle.desk_model.specs.State.{Setting};
+ghost use Rattle.desk_core.specs.Invariants.{AreFewStatements};
 ghost use Rattle.cfg_model.specs.Limits.{IsWithinLimits};
 ghost use Rattle.desk_run.specs.Inputs.{desk_under};
 ghost use Rattle.desk_run.specs.Ends.{KeepsLaws, AskNothing, Ends, Finishes, HoldsConfig};
@@ -14,7 +15,7 @@ use crate::run::{RunEnd, run_lines};
 use cfg_model::Config;
 use desk_core::Desk;
 use reg_io::{Disk, Shelf, Sink, Source};
-use rule_lang::Rules;
+use rule_lang::{Rules, places_are_resolved};
 use std::alloc::Global;
 use std::thread::Threads;
 
@@ -56,10 +57,10 @@ pub fn desk_main<R: Threads + Sync, F: Shelf, D: Disk + Send, S: Source, O: Sink
     // Of the lines that were answered under the file's configuration: each accepted balance is the
     // sum over the records at its place; the numbers of each clerk's requests rise; a repeated
     // request changes nothing, and is given the same reply while it is its clerk's last.
-    ensures laws { (config : Config)
+    ensures laws { (setting : Setting)
         → HoldsConfig (map (λ w. string_bytes w) words.now)
-        (shelf_of F.files F.faults shelf.old) config
-        → KeepsLaws (desk_under config)
+        (shelf_of F.files F.faults shelf.old) setting
+        → KeepsLaws (desk_under setting)
         (streams_of S.left S.read_faults O.taken O.write_faults input.old out.old)
         (streams_of S.left S.read_faults O.taken O.write_faults input.new out.new) }
 {
@@ -105,35 +106,44 @@ fn run_file<F: Shelf, S: Source, O: Sink>(
         (streams_of S.left S.read_faults O.taken O.write_faults input.old out.old)
         (streams_of S.left S.read_faults O.taken O.write_faults input.new out.new) result }
 {
-    let config = read_config(alloc, name, shelf)?;
-    run_config(alloc, config, input, out)?;
+    let (config, rules) = read_config(alloc, name, shelf)?;
+    run_config(alloc, config, rules, input, out)?;
     Ok(())
 }
 
-// Runs the lines of the input at a desk that is opened with the configuration.
+// Runs the lines of the input at a desk that is opened with the configuration and its rules.
 fn run_config<S: Source, O: Sink>(
     alloc: Global,
     config: Config,
+    rules: Rules,
     input: &mut S,
     out: &mut O,
 ) -> Result<(), RunEnd>
     requires limits { IsWithinLimits config }
-    ensures runs { RunsWith config
+    requires statements { AreFewStatements rules }
+    ensures runs { RunsWith (record { config = config; rules = rules })
         (streams_of S.left S.read_faults O.taken O.write_faults input.old out.old)
         (streams_of S.left S.read_faults O.taken O.write_faults input.new out.new) result }
 {
-    let mut desk = Desk::open(alloc, config)?;
+    let mut desk = Desk::open(alloc, config, rules)?;
     run_lines(alloc, &mut desk, input, out)
 }
 
-fn read_config<F: Shelf>(alloc: Global, name: &str, shelf: &mut F) -> Result<Config, Fault>
+// The configuration of this name, with its rules.
+fn read_config<F: Shelf>(
+    alloc: Global,
+    name: &str,
+    shelf: &mut F,
+) -> Result<(Config, Rules), Fault>
     ensures reads { ReadsConfig name.now
         (shelf_of F.files F.faults shelf.old)
         (shelf_of F.files F.faults shelf.new) result }
-    ensures limits { IfOk result IsWithinLimits }
+    ensures limits { IfOk result (λ found. IsWithinLimits found.0) }
+    ensures statements { IfOk result (λ found. AreFewStatements found.1) }
 {
     let bytes = shelf.read_file(alloc, name, MOST_CONFIG_BYTES)?;
     let config = Config::read(alloc, bytes.as_slice())?;
-    Rules::read(alloc, &config)?;
-    Ok(config)
+    let rules = Rules::read(alloc, &config)?;
+    places_are_resolved();
+    Ok((config, rules))
 }

@@ -7,12 +7,16 @@ use cfg_model::Config;
 use desk_core::Desk;
 use desk_words::{Reply, Request};
 use reg_base::{Line, List};
+use rule_lang::Rules;
 use std::alloc::Global;
 use std::test::Fail;
 
 fn desk(alloc: Global) -> Option<Desk> {
     let config = Config::read(alloc, SHOP.as_bytes()).ok()?;
-    Desk::open(alloc, config).ok()
+    let rules = Rules {
+        kinds: List::new(alloc),
+    };
+    Desk::open(alloc, config, rules).ok()
 }
 
 // The text of the reply of a desk to a receipt.

@@ -7,7 +7,7 @@ use Rattle.desk_run.proofs.top_call.run_config.Goals as goal
 pub returns-in_err-desk : goal.returns-in_err-desk
 returns-in_err-desk g c = record {
   runs = (
-    desk_under c.args.config,
+    desk_under (record { config = c.args.config; rules = c.args.rules }),
     rw (is_fault c.from_residual.result _
         c.from_residual.ensures) (Runs-none _ _ _ _ _ _ _ _),
   );
@@ -15,7 +15,8 @@ returns-in_err-desk g c = record {
 
 pub returns : goal.returns
 returns g c = record {
-  runs = RunsWith-opened c.in_ok-desk.desk.desk c.args.config c.run_lines.new.desk.desk _ _
+  runs = RunsWith-opened c.in_ok-desk.desk.desk
+      (record { config = c.args.config; rules = c.args.rules }) c.run_lines.new.desk.desk _ _
       c.run_lines.result
       c.in_ok-desk.ensures c.run_lines.ensures.runs;
 }

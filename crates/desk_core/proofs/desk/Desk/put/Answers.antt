@@ -23,9 +23,10 @@ invariant_of-self-2 c =
     { staged = Put (record { doc = document.doc; sets = document.sets }) ∷ []; room = None })
     c.in_ok-room.ensures.ok in
     let higher = max top document.doc.number in
-    subst (λ t. IsKept c.self.inside.config c.keep.new.self t counted.result)
+    subst (λ t. IsKept c.self.inside.config c.self.inside.rules c.keep.new.self t
+    counted.result)
     (sym c.max-self-inside.ensures)
-    (IsKept-staged c.self.inside.config store c.stage.new.self c.keep.new.self
+    (IsKept-staged c.self.inside.config c.self.inside.rules store c.stage.new.self c.keep.new.self
     (Put document) top records c.self.invariant staged c.keep.ensures higher counted.result
     (subst (λ (ds : List Document). AreKept (with_document document ds) higher counted.result) same
     (AreKept-with c.args.self.now.desk document top records higher counted.result
