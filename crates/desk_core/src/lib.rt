@@ -13,6 +13,7 @@
 //! Leaves open: when memory is wanted.
 #![tactic(auto)]
 
+mod books;
 mod changes;
 mod clerks;
 mod deeds;
