@@ -10,6 +10,7 @@ use std::alloc::Global;
 pub trait Balances {
     /// The records of each register, and how many resources it has.
     ghost books: { Self → ℕ → List Booked };
+
     ghost resources: { Self → ℕ → ℕ };
 
     /// The balance of a register without the records of one document: a row per group.

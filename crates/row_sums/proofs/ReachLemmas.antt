@@ -1,6 +1,6 @@
 -- How large sums can be.
 use Rattle.std.proofs.Common.{◌≡◌, ℕ, ◌+◌, ◌<◌, ◌≤◌, ◌*◌, ◌^◌, ℤ, pos, ◌+ℤ◌, Bool, true, false, cond}
-use Rattle.std.proofs.Common.{Option, List, [], ◌∷◌, map, length, sym, subst, arith}
+use Rattle.std.proofs.Common.{Result, Ok, Err, IfOk, Option, List, [], ◌∷◌, map, length, sym, subst, arith}
 use Rattle.std.specs.List.{filter, range_with_len}
 use Rattle.std.specs.Ordering.{match_ordering, is_eq}
 use Rattle.std.specs.declared.cmp.Ordering.{Ordering}
@@ -118,7 +118,7 @@ module _ (bound : ℕ) (by : Option (List ℕ)) where
     within-row_of n bs gs all,
   )
 
-within-filter : (bound : ℕ) (p : SumRow → Bool) (rows : List SumRow) → AreWithin bound rows
+pub within-filter : (bound : ℕ) (p : SumRow → Bool) (rows : List SumRow) → AreWithin bound rows
     → AreWithin bound (filter p rows)
 within-filter bound p [] h = tt
 within-filter bound p (r ∷ rs) h = at (p r) (within-filter bound p rs h.1)
@@ -135,3 +135,9 @@ unfolding sum_rows
 within-sum_rows bound n by bs all =
     within-filter (bound * length bs) is_shown (map (row_of n by bs) (groups_of by bs))
     (within-row_of bound by n bs (groups_of by bs) all)
+
+-- a result that is one value has what that value has
+pub IfOk-is : {X F : Type 0} (P : X → Type 0) (x : X) (r : Result X F) → IfOk r (λ y. y ≡ x)
+    → P x → IfOk r P
+IfOk-is P x (Ok y) e p = subst P (sym e) p
+IfOk-is P x (Err f) e p = tt

@@ -66,5 +66,5 @@ returns c =
     let P : List Document → Type 0 = λ ds. IfOk c.into_shown.result (λ rows. rows
     ≡ sum_rows q.resources (option_copied q.by) (counted q (flat_map (booked_by q.register) ds))) in
     subst P (take_all (length c.loop-document.yielded) c.args.documents (omega (arith, end.1)))
-    (c.into_shown.ensures (option_copied q.by) q.resources _
+    (c.into_shown.ensures.rows (option_copied q.by) q.resources _
     (c.loop-document.invariant.sums [] (AddsUp-nil (option_copied q.by) q.resources)))
