@@ -6,7 +6,5 @@ pub mod LastLemmas
 pub mod LimitLemmas
 pub mod LineLemmas
 pub mod PlanLemmas
-pub mod RaiseLemmas
 pub mod RowLemmas
-pub mod SetLemmas
 pub mod StepLemmas

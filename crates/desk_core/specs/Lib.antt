@@ -1,3 +1,4 @@
+pub mod Books
 pub mod DeskViews
 pub mod Invariants
 pub mod Lines

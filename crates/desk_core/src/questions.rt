@@ -9,7 +9,7 @@ ghost use Rattle.desk_plans.specs.Tries.{Tries};
 
 use crate::desk::Desk;
 use crate::outcome::{Outcome, refusal_outcome};
-use crate::rows::balance_rows;
+use crate::rows::all_rows;
 use cfg_model::Resource;
 use desk_plans::{PartFault, Tried, shown_document, wrong};
 use desk_words::{Answer, Balance, DocQuestion, Field, Refusal, Reply};
@@ -52,7 +52,7 @@ impl Desk {
         }
         let cut = balance.cut.unwrap_or(Cut::Now);
         let resources = register.resources.as_slice();
-        let rows = balance_rows(alloc, self.store.documents(), place, resources.len(), cut)?;
+        let rows = all_rows(alloc, self.store.documents(), place, resources.len(), &cut)?;
         let scales = scales_of(alloc, resources)?;
         Ok(Answer::Balance { rows, scales })
     }

@@ -1,225 +1,173 @@
-//! The rows of a balance: the records inside a cut, summed by their values.
-ghost use Rattle.std.specs.Prelude.{◌≡◌, ℕ, ◌≤◌, ◌<◌, ◌^◌, ◌+ℤ◌, pos, [], ◌∷◌, All, length, ◌++◌};
-ghost use Rattle.std.specs.Prelude.{map, filter, not, None, IfOk, OnOk};
-ghost use Rattle.std.specs.List.{flat_map, list_any, range_with_len};
-ghost use Rattle.std.specs.Ordering.{int_eq};
-ghost use Rattle.reg_base.specs.Cuts.{inside};
-ghost use Rattle.reg_base.specs.Records.{booked_by, point_of, records_within};
-ghost use Rattle.reg_base.specs.Records.{amount_at as amount_of};
-ghost use Rattle.reg_base.specs.Balances.{sum_rows, is_shown};
+//! The rows of a balance: the records of documents that it counts, summed by group.
+ghost use Rattle.std.specs.Prelude.{◌≡◌, ℕ, ◌≤◌, ◌<◌, ◌^◌, [], ◌∷◌, All, length, map, None, IfOk};
+ghost use Rattle.std.specs.List.{flat_map};
+ghost use Rattle.std.specs.Option.{option_copied};
+ghost use Rattle.reg_base.specs.Records.{booked_by, records_within};
+ghost use Rattle.reg_base.specs.Balances.{sum_rows};
+ghost use Rattle.row_sums.specs.Sums.{booked, AreInReach};
 ghost use Rattle.desk_plans.specs.ShortLists.{HasShortLists};
-ghost use Rattle.desk_core.specs.Rows.{booked, rows_of, sums_at, sum_at, IsInReach, Adds, AreOfFew};
+ghost use Rattle.desk_core.specs.Rows.{counts, counted, is_other as is_other_than, AddsFor};
 
 use doc_store::Documents;
-use reg_base::{Cut, DocState, Document, List, Mark, Memory, Point, Rec, SumRow, Value, inside};
+use reg_base::{Cut, DocState, Document, Filter, List, Memory, Point, Rec, SumRow, inside};
+use row_sums::{RowSums, matches};
 use std::alloc::Global;
-use std::collections::BTreeMap;
 
-// A row for each list of values, with the sums of the records inside the cut; rows of zeros are
-// left out.
-pub(crate) fn balance_rows(
+/// What a balance asks of the documents.
+#[derive(Drop)]
+pub(crate) struct Query<'a> {
+    /// The place of the register in the configuration.
+    pub register: usize,
+    /// How many resources it has.
+    pub resources: usize,
+    /// The dimensions that make a group; all values do where none are given.
+    pub by: Option<&'a [u8]>,
+    pub filter: &'a Filter,
+    pub cut: &'a Cut,
+    /// The number of the document that is left out.
+    pub skip: Option<u32>,
+}
+
+impl<'a> Query<'a> {
+    pub(crate) fn new(
+        register: usize,
+        resources: usize,
+        by: Option<&'a [u8]>,
+        filter: &'a Filter,
+        cut: &'a Cut,
+        skip: Option<u32>,
+    ) -> Query<'a>
+        ensures { result ≡ record {
+          register = register;
+          resources = resources;
+          by = by.entry;
+          filter = filter.entry;
+          cut = cut.entry;
+          skip = skip;
+        } }
+    {
+        Query {
+            register,
+            resources,
+            by,
+            filter,
+            cut,
+            skip,
+        }
+    }
+}
+
+/// The rows of all records inside a cut, a row for each list of values.
+pub(crate) fn all_rows(
     alloc: Global,
     documents: Documents<'_>,
     register: usize,
     resources: usize,
-    cut: Cut,
+    cut: &Cut,
 ) -> Result<List<SumRow>, Memory>
     requires few { length documents < 2 ^ 32 }
     requires short { All HasShortLists documents }
     ensures { IfOk result (λ rows. rows ≡ sum_rows resources None
-        (filter (λ b. inside cut (point_of b)) (flat_map (booked_by register) documents.entry))) }
+        (records_within cut.now (flat_map (booked_by register) documents.entry))) }
 {
-    let mut sums = BTreeMap::new(alloc);
-    for document in documents {
-        add_document(alloc, &mut sums, document, register, resources, &cut)?;
-    }
-    shown_rows(alloc, sums)
+    let filter = Filter {
+        lists: List::new(alloc),
+    };
+    let query = Query::new(register, resources, None, &filter, cut, None);
+    balance_rows(alloc, documents, &query)
 }
 
-// Adds the records of a document that count and lie inside the cut.
-fn add_document(
+/// The rows of the records that a balance counts.
+pub(crate) fn balance_rows(
     alloc: Global,
-    sums: &mut BTreeMap<Vec<Value>, Vec<i128>>,
-    document: &Document,
-    register: usize,
-    resources: usize,
-    cut: &Cut,
-) -> Result<(), Memory>
-    requires few { AreOfFew (2 ^ 45) resources (rows_of sums.old.entries) }
-    requires short { HasShortLists document.now }
-    ensures { IfOk result (λ _. Adds resources
-        (records_within cut.now (booked_by register document.now))
-        sums.old.entries sums.new.entries) }
+    documents: Documents<'_>,
+    query: &Query<'_>,
+) -> Result<List<SumRow>, Memory>
+    requires few { length documents < 2 ^ 32 }
+    requires short { All HasShortLists documents }
+    ensures { IfOk result (λ rows. rows ≡ sum_rows query.now.resources
+        (option_copied query.now.by)
+        (counted query.now (flat_map (booked_by query.now.register) documents.entry))) }
+{
+    let mut sums = RowSums::new(alloc);
+    for document in documents {
+        let set = counted_set(document, query.register);
+        add_set(alloc, &mut sums, set, document.doc.number, query)?;
+    }
+    sums.into_shown(alloc)
+}
+
+// The records of a document in a register, where they count.
+fn counted_set(document: &Document, register: usize) -> &[Rec]
+    requires { HasShortLists document.now }
+    ensures value { map (booked document.now.doc.number) result.now
+        ≡ booked_by register document.now }
+    ensures short { length result.now ≤ 5_000 }
 {
     if document.doc.state != DocState::Posted || !document.doc.active {
-        return Ok(());
+        return &[];
     }
     match document.sets.registers.get(register) {
-        Some(set) => add_set(
-            alloc,
-            sums,
-            set.as_slice(),
-            document.doc.number,
-            resources,
-            cut,
-        ),
-        None => Ok(()),
+        Some(set) => set.as_slice(),
+        None => &[],
     }
 }
 
-// Adds the records of a set that lie inside the cut.
+// Adds the records of a set that the balance counts.
 fn add_set(
     alloc: Global,
-    sums: &mut BTreeMap<Vec<Value>, Vec<i128>>,
+    sums: &mut RowSums,
     set: &[Rec],
     number: u32,
-    resources: usize,
-    cut: &Cut,
+    query: &Query<'_>,
 ) -> Result<(), Memory>
-    requires few { AreOfFew (2 ^ 45) resources (rows_of sums.old.entries) }
+    requires reach { AreInReach (2 ^ 45) sums.old }
     requires short { length set.now ≤ 5_000 }
-    ensures { IfOk result (λ _. Adds resources
-        (records_within cut.now (map (booked number) set.now)) sums.old.entries sums.new.entries) }
+    ensures { IfOk result (λ _.
+        AddsFor query.now (map (booked number) set.now) sums.old sums.new) }
 {
     for rec in set {
-        if inside(
-            *cut,
-            Point {
-                date: rec.period,
-                doc: number,
-            },
-        ) {
-            add_record(alloc, sums, rec, resources)?;
-        }
+        add_counted(alloc, sums, rec, number, query)?;
     }
     Ok(())
 }
 
-// Adds a record to the row of its values, or makes the row.
-fn add_record(
+// Adds a record, where the balance counts it.
+fn add_counted(
     alloc: Global,
-    sums: &mut BTreeMap<Vec<Value>, Vec<i128>>,
+    sums: &mut RowSums,
     rec: &Rec,
-    resources: usize,
+    number: u32,
+    query: &Query<'_>,
 ) -> Result<(), Memory>
-    requires { AreOfFew (2 ^ 46) resources (rows_of sums.old.entries) }
-    ensures { (number : ℕ) → IfOk result (λ _. Adds resources
-        (booked number rec.now ∷ []) sums.old.entries sums.new.entries) }
+    requires { AreInReach (2 ^ 46) sums.old }
+    ensures { IfOk result (λ _. AddsFor query.now (booked number rec.now ∷ []) sums.old sums.new) }
 {
-    match sums.get_mut(rec.values.as_slice()) {
-        Some(found) => {
-            raise(found.as_mut_slice(), rec);
-            Ok(())
-        }
-        None => make_row(alloc, sums, rec, resources),
+    if !is_counted(rec, number, query) {
+        return Ok(());
     }
+    sums.add(alloc, query.by, query.resources, rec)
 }
 
-// Adds the amounts of a record to sums, resource by resource.
-fn raise(sums: &mut [i128], rec: &Rec)
-    requires { (j : ℕ) → j < length sums.old → IsInReach (2 ^ 46) (sum_at sums.old j) }
-    ensures value { sums.new ≡ map (λ j. amount_of j rec.now +ℤ sum_at sums.old j)
-        (range_with_len 0 (length sums.old)) }
-    ensures small { (j : ℕ) → j < length sums.old → IsInReach 1 (amount_of j rec.now) }
+// Whether the balance counts a record.
+fn is_counted(rec: &Rec, number: u32, query: &Query<'_>) -> bool
+    ensures { result ≡ counts query.now (booked number rec.now) }
 {
-    for j in 0..sums.len() {
-        sums[j] = raised_sum(sums, rec, j);
+    let point = Point {
+        date: rec.period,
+        doc: number,
+    };
+    is_other(number, query.skip)
+        && matches(query.filter, rec.values.as_slice())
+        && inside(*query.cut, point)
+}
+
+// Whether a document is not the one that is left out.
+fn is_other(number: u32, skip: Option<u32>) -> bool
+    ensures { result ≡ is_other_than skip number }
+{
+    match skip {
+        Some(skip) => number != skip,
+        None => true,
     }
-}
-
-// Makes the row of a record's values, where there is none.
-fn make_row(
-    alloc: Global,
-    sums: &mut BTreeMap<Vec<Value>, Vec<i128>>,
-    rec: &Rec,
-    resources: usize,
-) -> Result<(), Memory>
-    requires { sums_at rec.now.values (rows_of sums.old.entries) ≡ [] }
-    ensures { (number : ℕ) → IfOk result (λ _. Adds resources
-        (booked number rec.now ∷ []) sums.old.entries sums.new.entries) }
-{
-    let raised = raised_sums(alloc, &[], rec, resources)?;
-    let group = Vec::from_slice(alloc, rec.values.as_slice())?;
-    sums.insert(group, raised)?;
-    Ok(())
-}
-
-// The sums with the amounts of a record added.
-fn raised_sums(
-    alloc: Global,
-    sums: &[i128],
-    rec: &Rec,
-    resources: usize,
-) -> Result<Vec<i128>, Memory>
-    requires { (j : ℕ) → j < resources → IsInReach (2 ^ 46) (sum_at sums.now j) }
-    ensures value { IfOk result (λ raised. raised.items
-        ≡ map (λ j. amount_of j rec.now +ℤ sum_at sums.now j) (range_with_len 0 resources)) }
-    ensures small { IfOk result (λ _.
-        (j : ℕ) → j < resources → IsInReach 1 (amount_of j rec.now)) }
-{
-    let mut raised = Vec::new(alloc);
-    for j in 0..resources {
-        raised.push(raised_sum(sums, rec, j))?;
-    }
-    Ok(raised)
-}
-
-// The sum at a resource with the amount of a record added.
-fn raised_sum(sums: &[i128], rec: &Rec, resource: usize) -> i128
-    requires { IsInReach (2 ^ 46) (sum_at sums.now resource) }
-    ensures value { result ≡ amount_of resource rec.now +ℤ sum_at sums.now resource }
-    ensures small { IsInReach 1 (amount_of resource rec.now) }
-{
-    amount_at(rec, resource) + sum_in(sums, resource)
-}
-
-// The sum at a resource, and 0 where there is none.
-fn sum_in(sums: &[i128], resource: usize) -> i128
-    ensures { result ≡ sum_at sums.now resource }
-{
-    sums.get(resource).copied().unwrap_or(0)
-}
-
-// The amount of a record at a resource, an expense with the opposite sign.
-fn amount_at(rec: &Rec, resource: usize) -> i128
-    ensures value { result ≡ amount_of resource rec.now }
-    ensures small { IsInReach 1 result }
-{
-    let amount = i128::from(rec.sums.get(resource).copied().unwrap_or(0));
-    match rec.mark {
-        Mark::Receipt | Mark::Turn => amount,
-        Mark::Expense => -amount,
-    }
-}
-
-// The rows that are not all zeros, in order.
-fn shown_rows(alloc: Global, sums: BTreeMap<Vec<Value>, Vec<i128>>) -> Result<List<SumRow>, Memory>
-    ensures { IfOk result (λ rows. rows ≡ filter is_shown (rows_of sums.entries)) }
-{
-    let mut rows = List::new(alloc);
-    for (group, totals) in sums {
-        push_shown(&mut rows, group, totals)?;
-    }
-    Ok(rows)
-}
-
-// Puts a row behind the others, unless it is all zeros.
-fn push_shown(rows: &mut List<SumRow>, group: Vec<Value>, totals: Vec<i128>) -> Result<(), Memory>
-    ensures { OnOk result (rows.new ≡ rows.old
-        ++ filter is_shown (record { group = group.items; sums = totals.items } ∷ [])) }
-{
-    if has_some(&totals) {
-        rows.push(SumRow {
-            group: List::from_vec(group),
-            sums: List::from_vec(totals),
-        })?;
-    }
-    Ok(())
-}
-
-// Whether not all of the sums are 0.
-fn has_some(sums: &[i128]) -> bool
-    ensures { result ≡ list_any (λ s. not (int_eq s (pos 0))) sums.now }
-{
-    sums.iter().any(|sum| *sum != 0)
 }

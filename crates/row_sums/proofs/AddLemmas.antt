@@ -17,9 +17,9 @@ use Rattle.reg_base.specs.Records.{Booked, values_cmp, put_once, amount_at}
 use Rattle.reg_base.specs.Balances.{group_of, groups_of, total, row_of, is_shown}
 use Rattle.reg_base.specs.Balances.{sum_rows}
 use Rattle.reg_base.proofs.ForAbove.{values_cmp_total, values_cmp_exact, total-push}
-use Rattle.row_sums.specs.Sums.{groups_in, IsRising, is_among, sum_at, AddsUp}
+use Rattle.row_sums.specs.Sums.{groups_in, IsRising, is_element, sum_at, AddsUp}
 use Rattle.row_sums.specs.Rows.{sums_at, with_row}
-use Rattle.row_sums.proofs.RisingLemmas.{or-false, rising-put_once, among-put_once, among-filter}
+use Rattle.row_sums.proofs.RisingLemmas.{or-false, rising-put_once, element-put_once, element-filter}
 use Rattle.row_sums.proofs.RisingLemmas.{rising-same}
 use Rattle.row_sums.proofs.RowLemmas.{row_by, groups_in-row_by, filter-row_by, sums_at-row_by}
 use Rattle.row_sums.proofs.RowLemmas.{with_row-groups, set_row, set_row-with_row}
@@ -36,12 +36,12 @@ module _ (by : Option (List ℕ)) where
 
   -- a group that no record has sums to 0
   total-absent : (k : List Value) (bs : List Booked) (j : ℕ)
-      → is_among values_cmp k (groups_of by bs) ≡ false → total by k bs j ≡ pos 0
+      → is_element values_cmp k (groups_of by bs) ≡ false → total by k bs j ≡ pos 0
   total-absent k [] j h = refl
   total-absent k (b ∷ bs) j h =
       let parts = or-false (is_eq (values_cmp (group_of by b) k))
-      (is_among values_cmp k (groups_of by bs))
-      (sym (among-put_once values_cmp_total values_cmp_exact k (group_of by b) (groups_of by bs))
+      (is_element values_cmp k (groups_of by bs))
+      (sym (element-put_once values_cmp_total values_cmp_exact k (group_of by b) (groups_of by bs))
       ∙ h) in
       λ i. cond (parts.0 i) (amount_at j b.rec) (pos 0) +ℤ total-absent k bs j parts.1 i
 
@@ -79,10 +79,10 @@ module _ (by : Option (List ℕ)) where
     -- ---- what is shown
 
     -- a group that is shown is among groups that leave out those of 0 alone
-    and-among : (k : List Value) (bs : List Booked) (gs : List (List Value))
-        → (is_among values_cmp k gs ≡ false → (j : ℕ) → j < resources → total by k bs j ≡ pos 0)
-        → shows bs k && is_among values_cmp k gs ≡ shows bs k
-    and-among k bs gs covered = at (is_among values_cmp k gs) refl
+    and-element : (k : List Value) (bs : List Booked) (gs : List (List Value))
+        → (is_element values_cmp k gs ≡ false → (j : ℕ) → j < resources → total by k bs j ≡ pos 0)
+        → shows bs k && is_element values_cmp k gs ≡ shows bs k
+    and-element k bs gs covered = at (is_element values_cmp k gs) refl
       where
         right : (p : Bool) → p && true ≡ p
         right true = refl
@@ -92,7 +92,7 @@ module _ (by : Option (List ℕ)) where
         wrong true = refl
         wrong false = refl
 
-        at : (b : Bool) → is_among values_cmp k gs ≡ b → shows bs k && b ≡ shows bs k
+        at : (b : Bool) → is_element values_cmp k gs ≡ b → shows bs k && b ≡ shows bs k
         at true e = right (shows bs k)
         at false e = wrong (shows bs k) ∙ sym (not-shown k bs (covered e))
 
@@ -106,13 +106,13 @@ module _ (by : Option (List ℕ)) where
         ∙ ap (map (row_by (totals bs))) groups
         ∙ sym (filter-row_by is_shown (totals bs) (groups_of by bs))
       where
-        among : (k : List Value) → is_among values_cmp k (filter (shows bs) (groups_in rows))
-            ≡ is_among values_cmp k (filter (shows bs) (groups_of by bs))
+        among : (k : List Value) → is_element values_cmp k (filter (shows bs) (groups_in rows))
+            ≡ is_element values_cmp k (filter (shows bs) (groups_of by bs))
         among k =
-            among-filter values_cmp_total values_cmp_exact (shows bs) k (groups_in rows)
-            ∙ and-among k bs (groups_in rows) (h.covered k)
-            ∙ sym (and-among k bs (groups_of by bs) (λ e j l. total-absent k bs j e))
-            ∙ sym (among-filter values_cmp_total values_cmp_exact (shows bs) k (groups_of by bs))
+            element-filter values_cmp_total values_cmp_exact (shows bs) k (groups_in rows)
+            ∙ and-element k bs (groups_in rows) (h.covered k)
+            ∙ sym (and-element k bs (groups_of by bs) (λ e j l. total-absent k bs j e))
+            ∙ sym (element-filter values_cmp_total values_cmp_exact (shows bs) k (groups_of by bs))
 
         groups : filter (shows bs) (groups_in rows) ≡ filter (shows bs) (groups_of by bs)
         groups = rising-same values_cmp_total values_cmp_exact
@@ -138,17 +138,17 @@ module _ (by : Option (List ℕ)) where
           (IsStrictlySortedBy-filter values_cmp (shows bs) (groups_of by bs) (rising-groups_of bs));
       same = e ∙ filter-row_by is_shown (totals bs) (groups_of by bs)
           ∙ ap (map (row_by (totals bs))) (sym (groups-sum_rows bs rows e));
-      covered = λ k h. at k (is_among values_cmp k (groups_of by bs)) refl
-          (sym (among-filter values_cmp_total values_cmp_exact (shows bs) k (groups_of by bs))
-          ∙ ap (is_among values_cmp k) (sym (groups-sum_rows bs rows e)) ∙ h);
+      covered = λ k h. at k (is_element values_cmp k (groups_of by bs)) refl
+          (sym (element-filter values_cmp_total values_cmp_exact (shows bs) k (groups_of by bs))
+          ∙ ap (is_element values_cmp k) (sym (groups-sum_rows bs rows e)) ∙ h);
     }
       where
         left : (p : Bool) → p && true ≡ false → p ≡ false
         left true h = absurd (cc)
         left false h = refl
 
-        at : (k : List Value) (b : Bool) → is_among values_cmp k (groups_of by bs) ≡ b
-            → shows bs k && is_among values_cmp k (groups_of by bs) ≡ false
+        at : (k : List Value) (b : Bool) → is_element values_cmp k (groups_of by bs) ≡ b
+            → shows bs k && is_element values_cmp k (groups_of by bs) ≡ false
             → (j : ℕ) → j < resources → total by k bs j ≡ pos 0
         at k false p h j l = total-absent k bs j p
         at k true p h j l =
@@ -169,16 +169,16 @@ module _ (by : Option (List ℕ)) where
       sum_at-old k j l =
           ap (λ rows. sum_at (sums_at k rows) j) h.same
           ∙ ap (λ s. sum_at s j) (sums_at-row_by (totals bs) k (groups_in old))
-          ∙ at (is_among values_cmp k (groups_in old)) refl
+          ∙ at (is_element values_cmp k (groups_in old)) refl
         where
-          at : (b : Bool) → is_among values_cmp k (groups_in old) ≡ b
+          at : (b : Bool) → is_element values_cmp k (groups_in old) ≡ b
               → sum_at (cond b (totals bs k) []) j ≡ total by k bs j
           at true e =
               range-get (total by k bs) j 0 resources l ∙ ap (total by k bs) (omega arith)
           at false e = sym (h.covered k e j l)
 
       -- a row that is found has as many sums as there are resources
-      pub length-found : (k : List Value) → is_among values_cmp k (groups_in old) ≡ true
+      pub length-found : (k : List Value) → is_element values_cmp k (groups_in old) ≡ true
           → length (sums_at k old) ≡ resources
       length-found k has =
           ap (λ rows. length (sums_at k rows)) h.same
@@ -228,9 +228,9 @@ module _ (by : Option (List ℕ)) where
               (rising-put_once values_cmp_total values_cmp_exact k (groups_in old) h.rising);
           same = rows-next v new e n ∙ ap (map (row_by (totals next))) (sym groups);
           covered = λ g none j l. absent g j l (or-false (is_eq (values_cmp k g))
-              (is_among values_cmp g (groups_in old))
-              (sym (among-put_once values_cmp_total values_cmp_exact g k (groups_in old))
-              ∙ ap (is_among values_cmp g) (sym groups) ∙ none));
+              (is_element values_cmp g (groups_in old))
+              (sym (element-put_once values_cmp_total values_cmp_exact g k (groups_in old))
+              ∙ ap (is_element values_cmp g) (sym groups) ∙ none));
         }
           where
             groups : groups_in new ≡ put_once values_cmp k (groups_in old)
@@ -239,7 +239,7 @@ module _ (by : Option (List ℕ)) where
 
             absent : (g : List Value) (j : ℕ) → j < resources
                 → (is_eq (values_cmp k g) ≡ false)
-                × (is_among values_cmp g (groups_in old) ≡ false)
+                × (is_element values_cmp g (groups_in old) ≡ false)
                 → total by g next j ≡ pos 0
             absent g j l none =
                 sym (total-other g bs b j
@@ -248,7 +248,7 @@ module _ (by : Option (List ℕ)) where
 
         -- the same in a row that stands
         pub AddsUp-raise : (v : List ℤ) (new : List SumRow)
-            → is_among values_cmp k (groups_in old) ≡ true
+            → is_element values_cmp k (groups_in old) ≡ true
             → v ≡ map (λ j. amount_at j b.rec +ℤ sum_at (sums_at k old) j)
             (range_with_len 0 (length (sums_at k old)))
             → new ≡ set_row k v old → AddsUp by resources (bs ++ b ∷ []) new

@@ -14,7 +14,7 @@ use Rattle.reg_base.specs.Records.{Booked, values_cmp, amount_at}
 use Rattle.reg_base.specs.Balances.{group_of}
 use Rattle.row_sums.specs.Sums.{sum_at, IsInReach, AreInReach, AddsUp, Adds}
 use Rattle.row_sums.specs.Rows.{rows_of, sums_at, with_row}
-use Rattle.row_sums.proofs.RowLemmas.{sums_of, sums_of-lookup, rows_of-set_value, found-among}
+use Rattle.row_sums.proofs.RowLemmas.{sums_of, sums_of-lookup, rows_of-set_value, found-element}
 use Rattle.row_sums.proofs.RowLemmas.{range-same, set_row}
 use Rattle.row_sums.proofs.AddLemmas.{AddsUp-push, AddsUp-raise}
 use Rattle.row_sums.proofs.ReachLemmas.{reach-more, found-reach, raised-reach, reach-with_row}
@@ -57,7 +57,7 @@ module _ (by : Option (List ℕ)) (resources : ℕ) (b : Booked) (k : List Value
       ∙ rows_of-set_value k test same es w in
       record {
         sums = λ bs h. AddsUp-raise by resources bs (rows_of es) h b k own w.items (rows_of new)
-            (found-among k test same es v e)
+            (found-element k test same es v e)
             (value ∙ ap (λ s. map (λ j. amount_at j b.rec +ℤ sum_at s j)
             (range_with_len 0 (length s))) found)
             rows;

@@ -1,5 +1,5 @@
 -- For the crates above: the lemmas of this crate that their proofs may cite.
-use Rattle.std.proofs.Common.{◌≡◌, ℕ, ◌≤◌, Option, List, [], ◌++◌, length}
+use Rattle.std.proofs.Common.{◌≡◌, ℕ, ◌*◌, ◌≤◌, Option, List, [], ◌++◌, length}
 use Rattle.std.specs.List.{flat_map}
 use Rattle.reg_base.specs.declared.records.Document.{Document}
 use Rattle.reg_base.specs.declared.records.Filter.{Filter}
@@ -7,7 +7,7 @@ use Rattle.reg_base.specs.declared.records.SumRow.{SumRow}
 use Rattle.reg_base.specs.declared.cut.Cut.{Cut}
 use Rattle.reg_base.specs.Records.{Booked, booked_by, records_of, without_recorder}
 use Rattle.reg_base.specs.Balances.{sum_rows, balance_of}
-use Rattle.row_sums.specs.Sums.{AddsUp, AreInReach, AreAmounts, Adds}
+use Rattle.row_sums.specs.Sums.{AddsUp, AreWithin, AreInReach, AreAmounts, Adds}
 use Rattle.row_sums.proofs.AddLemmas as one
 use Rattle.row_sums.proofs.AddsLemmas as many
 use Rattle.row_sums.proofs.OrderLemmas as orders
@@ -28,14 +28,18 @@ pub Adds-both : (by : Option (List ℕ)) (resources : ℕ) (xs ys : List Booked)
     → Adds by resources (xs ++ ys) old new
 Adds-both = many.Adds-both
 
+-- sums within a bound are within a greater one
+pub rows-more : (m n : ℕ) → m ≤ n → (rows : List SumRow) → AreWithin m rows → AreWithin n rows
+rows-more = sizes.rows-more
+
 -- sums that so many amounts can make, more can make
 pub reach-more : (m n : ℕ) → m ≤ n → (rows : List SumRow) → AreInReach m rows → AreInReach n rows
 reach-more = sizes.reach-more
 
--- the rows of a balance are no larger than its records can make
-pub reach-sum_rows : (n : ℕ) (by : Option (List ℕ)) (bs : List Booked) → AreAmounts bs
-    → AreInReach (length bs) (sum_rows n by bs)
-reach-sum_rows = sizes.reach-sum_rows
+-- the sums of a balance are no larger than its amounts can make
+pub within-sum_rows : (bound n : ℕ) (by : Option (List ℕ)) (bs : List Booked)
+    → AreAmounts bound bs → AreWithin (bound * length bs) (sum_rows n by bs)
+within-sum_rows = sizes.within-sum_rows
 
 -- a balance without one document, over the records as the documents hold them
 pub balance_of-others : (asked : Filter) (by : Option (List ℕ)) (cut : Cut) (skip n register : ℕ)

@@ -10,7 +10,7 @@ use Rattle.std.specs.declared.cmp.Ordering.TheVariants.{Less, Equal, Greater}
 use Rattle.std.proofs.lemmas.Cmp.{tied_itself}
 use Rattle.std.proofs.lemmas.Map.Lookups.{CmpEqualImpliesEq}
 use Rattle.reg_base.specs.Records.{put_once}
-use Rattle.row_sums.specs.Sums.{is_among}
+use Rattle.row_sums.specs.Sums.{is_element}
 
 or-same : (p q : Bool) → p || q ≡ p || (p || q)
 or-same true q = refl
@@ -83,43 +83,43 @@ module _ {X : Type 0} {R : X → X → Ordering} (o : IsTotalOrder R)
         ih,
       )
 
-  pub among-put_once : (k x : X) (ys : List X)
-      → is_among R k (put_once R x ys) ≡ is_eq (R x k) || is_among R k ys
-  among-put_once k x [] = refl
-  among-put_once k x (y ∷ ys) = at (among-put_once k x ys) (R x y) refl
+  pub element-put_once : (k x : X) (ys : List X)
+      → is_element R k (put_once R x ys) ≡ is_eq (R x k) || is_element R k ys
+  element-put_once k x [] = refl
+  element-put_once k x (y ∷ ys) = at (element-put_once k x ys) (R x y) refl
     where
-      at : is_among R k (put_once R x ys) ≡ is_eq (R x k) || is_among R k ys → (r : Ordering)
+      at : is_element R k (put_once R x ys) ≡ is_eq (R x k) || is_element R k ys → (r : Ordering)
           → R x y ≡ r
-          → is_among R k (match_ordering r (x ∷ y ∷ ys) (y ∷ ys) (y ∷ put_once R x ys))
-          ≡ is_eq (R x k) || (is_eq (R y k) || is_among R k ys)
+          → is_element R k (match_ordering r (x ∷ y ∷ ys) (y ∷ ys) (y ∷ put_once R x ys))
+          ≡ is_eq (R x k) || (is_eq (R y k) || is_element R k ys)
       at ih Less p = refl
-      at ih Equal p = or-same (is_eq (R y k)) (is_among R k ys)
-          ∙ ap (λ z. is_eq (R z k) || (is_eq (R y k) || is_among R k ys)) (sym (exact x y p))
+      at ih Equal p = or-same (is_eq (R y k)) (is_element R k ys)
+          ∙ ap (λ z. is_eq (R z k) || (is_eq (R y k) || is_element R k ys)) (sym (exact x y p))
       at ih Greater p = ap (λ t. is_eq (R y k) || t) ih
-          ∙ or-swap (is_eq (R y k)) (is_eq (R x k)) (is_among R k ys)
+          ∙ or-swap (is_eq (R y k)) (is_eq (R x k)) (is_element R k ys)
 
   -- what is below all is not among them
   pub below-absent : (k : X) (xs : List X) → AllByRecursion (λ y. R k y ≡ Less) xs
-      → is_among R k xs ≡ false
+      → is_element R k xs ≡ false
   below-absent k [] all = refl
   below-absent k (x ∷ xs) all =
-      ap (λ t. t || is_among R k xs) (sym (eq-flip k x) ∙ ap is_eq all.0) ∙ below-absent k xs all.1
+      ap (λ t. t || is_element R k xs) (sym (eq-flip k x) ∙ ap is_eq all.0) ∙ below-absent k xs all.1
 
   -- what is among the elements that pass a test
-  pub among-filter : (p : X → Bool) (k : X) (xs : List X)
-      → is_among R k (filter p xs) ≡ p k && is_among R k xs
-  among-filter p k [] = at (p k)
+  pub element-filter : (p : X → Bool) (k : X) (xs : List X)
+      → is_element R k (filter p xs) ≡ p k && is_element R k xs
+  element-filter p k [] = at (p k)
     where
       at : (b : Bool) → false ≡ b && false
       at true = refl
       at false = refl
-  among-filter p k (x ∷ xs) =
+  element-filter p k (x ∷ xs) =
       pushed (p x)
-      ∙ ap (λ t. cond (p x) (is_eq (R x k) || t) t) (among-filter p k xs)
-      ∙ and-or (p x) (p k) (is_among R k xs) (is_eq (R x k)) same
+      ∙ ap (λ t. cond (p x) (is_eq (R x k) || t) t) (element-filter p k xs)
+      ∙ and-or (p x) (p k) (is_element R k xs) (is_eq (R x k)) same
     where
-      pushed : (b : Bool) → is_among R k (cond b (x ∷ filter p xs) (filter p xs))
-          ≡ cond b (is_eq (R x k) || is_among R k (filter p xs)) (is_among R k (filter p xs))
+      pushed : (b : Bool) → is_element R k (cond b (x ∷ filter p xs) (filter p xs))
+          ≡ cond b (is_eq (R x k) || is_element R k (filter p xs)) (is_element R k (filter p xs))
       pushed true = refl
       pushed false = refl
 
@@ -132,46 +132,46 @@ module _ {X : Type 0} {R : X → X → Ordering} (o : IsTotalOrder R)
       same = equal (R x k) refl
 
   -- the first of rising elements is not among the others, and what is another is no first
-  among-tail : (x k : X) (xs ys : List X) → AllByRecursion (λ y. R x y ≡ Less) xs
+  element-tail : (x k : X) (xs ys : List X) → AllByRecursion (λ y. R x y ≡ Less) xs
       → AllByRecursion (λ y. R x y ≡ Less) ys
-      → is_among R k (x ∷ xs) ≡ is_among R k (x ∷ ys) → is_among R k xs ≡ is_among R k ys
-  among-tail x k xs ys below above e = at (R x k) refl
+      → is_element R k (x ∷ xs) ≡ is_element R k (x ∷ ys) → is_element R k xs ≡ is_element R k ys
+  element-tail x k xs ys below above e = at (R x k) refl
     where
-      at : (r : Ordering) → R x k ≡ r → is_among R k xs ≡ is_among R k ys
+      at : (r : Ordering) → R x k ≡ r → is_element R k xs ≡ is_element R k ys
       at Less p = other (ap is_eq p)
         where
-          other : is_eq (R x k) ≡ false → is_among R k xs ≡ is_among R k ys
-          other q = ap (λ b. b || is_among R k xs) (sym q) ∙ e ∙ ap (λ b. b || is_among R k ys) q
+          other : is_eq (R x k) ≡ false → is_element R k xs ≡ is_element R k ys
+          other q = ap (λ b. b || is_element R k xs) (sym q) ∙ e ∙ ap (λ b. b || is_element R k ys) q
       at Greater p =
-          ap (λ b. b || is_among R k xs) (sym (ap is_eq p)) ∙ e
-          ∙ ap (λ b. b || is_among R k ys) (ap is_eq p)
+          ap (λ b. b || is_element R k xs) (sym (ap is_eq p)) ∙ e
+          ∙ ap (λ b. b || is_element R k ys) (ap is_eq p)
       at Equal p =
-          ap (λ z. is_among R z xs) (sym (exact x k p)) ∙ below-absent x xs below
-          ∙ sym (ap (λ z. is_among R z ys) (sym (exact x k p)) ∙ below-absent x ys above)
+          ap (λ z. is_element R z xs) (sym (exact x k p)) ∙ below-absent x xs below
+          ∙ sym (ap (λ z. is_element R z ys) (sym (exact x k p)) ∙ below-absent x ys above)
 
-  among-first : (x : X) (xs : List X) → is_among R x (x ∷ xs) ≡ true
-  among-first x xs = ap (λ r. is_eq r || is_among R x xs) (tied_itself o x)
+  element-first : (x : X) (xs : List X) → is_element R x (x ∷ xs) ≡ true
+  element-first x xs = ap (λ r. is_eq r || is_element R x xs) (tied_itself o x)
 
   -- rising lists with the same elements are the same
   pub rising-same : (xs ys : List X) → IsStrictlySortedBy R xs → IsStrictlySortedBy R ys
-      → ((k : X) → is_among R k xs ≡ is_among R k ys) → xs ≡ ys
+      → ((k : X) → is_element R k xs ≡ is_element R k ys) → xs ≡ ys
   unfolding IsStrictlySortedBy
   rising-same [] [] hx hy e = refl
-  rising-same [] (y ∷ ys) hx hy e = absurd (let h = e y ∙ among-first y ys in cc)
-  rising-same (x ∷ xs) [] hx hy e = absurd (let h = sym (e x) ∙ among-first x xs in cc)
+  rising-same [] (y ∷ ys) hx hy e = absurd (let h = e y ∙ element-first y ys in cc)
+  rising-same (x ∷ xs) [] hx hy e = absurd (let h = sym (e x) ∙ element-first x xs in cc)
   rising-same (x ∷ xs) (y ∷ ys) hx hy e = at (rising-same xs ys hx.1 hy.1) (R x y) refl
     where
-      at : (((k : X) → is_among R k xs ≡ is_among R k ys) → xs ≡ ys) → (r : Ordering)
+      at : (((k : X) → is_element R k xs ≡ is_element R k ys) → xs ≡ ys) → (r : Ordering)
           → R x y ≡ r → x ∷ xs ≡ y ∷ ys
       at rest Less p =
-          absurd (let h = sym (among-first x xs) ∙ e x
+          absurd (let h = sym (element-first x xs) ∙ e x
           ∙ below-absent x (y ∷ ys) (p, all-below x y ys p hy.0) in cc)
       at rest Greater p =
           let q : R y x ≡ Less = o.antisymm y x ∙ ap ordering_reverse p in
-          absurd (let h = sym (among-first y ys) ∙ sym (e y)
+          absurd (let h = sym (element-first y ys) ∙ sym (e y)
           ∙ below-absent y (x ∷ xs) (q, all-below y x xs q hx.0) in cc)
       at rest Equal p =
           let same : x ≡ y = exact x y p in
           λ i. same i ∷ rest
-          (λ k. among-tail x k xs ys hx.0 (all-same x y ys p hy.0)
-          (e k ∙ ap (λ z. is_among R k (z ∷ ys)) (sym same))) i
+          (λ k. element-tail x k xs ys hx.0 (all-same x y ys p hy.0)
+          (e k ∙ ap (λ z. is_element R k (z ∷ ys)) (sym same))) i

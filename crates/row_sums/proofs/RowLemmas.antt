@@ -17,7 +17,7 @@ use Rattle.reg_base.specs.contracts.value.ValueOrd.TheImpl.{ghosts}
 use Rattle.reg_base.specs.declared.records.SumRow.{SumRow}
 use Rattle.reg_base.specs.Records.{values_cmp, put_once}
 use Rattle.reg_base.proofs.ForAbove.{derived-value_cmp, values_cmp_total, values_cmp_exact}
-use Rattle.row_sums.specs.Sums.{groups_in, IsRising, is_among, sum_at}
+use Rattle.row_sums.specs.Sums.{groups_in, IsRising, is_element, sum_at}
 use Rattle.row_sums.specs.Rows.{rows_of, sums_at, with_row}
 use Rattle.row_sums.proofs.RisingLemmas.{all-below, all-same, below-absent, eq-flip}
 use Rattle.row_sums.proofs.RisingLemmas.{or-false}
@@ -93,24 +93,24 @@ module _ {A B : Type 0} (k : List Value) (test : Vec Value A → Bool)
       at ih false = ap (λ t. record { group = e.0.items; sums = e.1.items } ∷ t) ih
 
   -- a group that a look-up finds is among the groups
-  pub found-among : (es : List (Vec Value A × Vec ℤ B)) (v : Vec ℤ B) → lookup test es ≡ Some v
-      → is_among values_cmp k (groups_in (rows_of es)) ≡ true
-  found-among [] v e = absurd (cc)
-  found-among (x ∷ es) v e =
-      at (found-among es v) (is_eq (values_cmp k x.0.items)) refl
+  pub found-element : (es : List (Vec Value A × Vec ℤ B)) (v : Vec ℤ B) → lookup test es ≡ Some v
+      → is_element values_cmp k (groups_in (rows_of es)) ≡ true
+  found-element [] v e = absurd (cc)
+  found-element (x ∷ es) v e =
+      at (found-element es v) (is_eq (values_cmp k x.0.items)) refl
       (ap (λ b. cond b (Some x.1) (lookup test es)) (sym (same x.0)) ∙ e)
     where
       flip : is_eq (values_cmp x.0.items k) ≡ is_eq (values_cmp k x.0.items)
       flip = eq-flip values_cmp_total values_cmp_exact x.0.items k
 
-      at : (lookup test es ≡ Some v → is_among values_cmp k (groups_in (rows_of es)) ≡ true)
+      at : (lookup test es ≡ Some v → is_element values_cmp k (groups_in (rows_of es)) ≡ true)
           → (b : Bool) → is_eq (values_cmp k x.0.items) ≡ b
           → cond b (Some x.1) (lookup test es) ≡ Some v
-          → (is_eq (values_cmp x.0.items k) || is_among values_cmp k (groups_in (rows_of es)))
+          → (is_eq (values_cmp x.0.items k) || is_element values_cmp k (groups_in (rows_of es)))
           ≡ true
-      at ih true p e = ap (λ t. t || is_among values_cmp k (groups_in (rows_of es))) (flip ∙ p)
+      at ih true p e = ap (λ t. t || is_element values_cmp k (groups_in (rows_of es))) (flip ∙ p)
       at ih false p e =
-          ap (λ t. t || is_among values_cmp k (groups_in (rows_of es))) (flip ∙ p) ∙ ih e
+          ap (λ t. t || is_element values_cmp k (groups_in (rows_of es))) (flip ∙ p) ∙ ih e
 
 -- ---- rows whose sums a function gives
 
@@ -139,16 +139,16 @@ filter-row_by p f (g ∷ gs) = at (p (row_by f g)) (filter-row_by p f gs)
 
 -- the sums at a group
 pub sums_at-row_by : (f : List Value → List ℤ) (k : List Value) (gs : List (List Value))
-    → sums_at k (map (row_by f) gs) ≡ cond (is_among values_cmp k gs) (f k) []
+    → sums_at k (map (row_by f) gs) ≡ cond (is_element values_cmp k gs) (f k) []
 sums_at-row_by f k [] = refl
 sums_at-row_by f k (g ∷ gs) =
     at (sums_at-row_by f k gs) (values_cmp k g) refl
-    ∙ ap (λ b. cond (b || is_among values_cmp k gs) (f k) [])
+    ∙ ap (λ b. cond (b || is_element values_cmp k gs) (f k) [])
     (eq-flip values_cmp_total values_cmp_exact k g)
   where
-    at : sums_at k (map (row_by f) gs) ≡ cond (is_among values_cmp k gs) (f k) [] → (r : Ordering)
+    at : sums_at k (map (row_by f) gs) ≡ cond (is_element values_cmp k gs) (f k) [] → (r : Ordering)
         → values_cmp k g ≡ r → cond (is_eq r) (f g) (sums_at k (map (row_by f) gs)) ≡ cond
-        (is_eq r || is_among values_cmp k gs) (f k) []
+        (is_eq r || is_element values_cmp k gs) (f k) []
     at ih Less p = ih
     at ih Equal p = ap f (sym (values_cmp_exact k g p))
     at ih Greater p = ih
@@ -182,7 +182,7 @@ module _ (f h : List Value → List ℤ) (k : List Value)
 
 -- a row that stands is changed where it would be put
 pub set_row-with_row : (k : List Value) (v : List ℤ) (f : List Value → List ℤ)
-    (gs : List (List Value)) → IsRising gs → is_among values_cmp k gs ≡ true
+    (gs : List (List Value)) → IsRising gs → is_element values_cmp k gs ≡ true
     → set_row k v (map (row_by f) gs)
     ≡ with_row (record { group = k; sums = v }) (map (row_by f) gs)
 unfolding IsStrictlySortedBy
@@ -190,7 +190,7 @@ set_row-with_row k v f [] rise has = absurd (cc)
 set_row-with_row k v f (x ∷ xs) rise has =
     at (set_row-with_row k v f xs rise.1) (values_cmp k x) refl
   where
-    at : (is_among values_cmp k xs ≡ true → set_row k v (map (row_by f) xs)
+    at : (is_element values_cmp k xs ≡ true → set_row k v (map (row_by f) xs)
         ≡ with_row (record { group = k; sums = v }) (map (row_by f) xs))
         → (r : Ordering) → values_cmp k x ≡ r
         → cond (is_eq r) (record { group = x; sums = v } ∷ map (row_by f) xs)
@@ -206,7 +206,7 @@ set_row-with_row k v f (x ∷ xs) rise has =
     at ih Equal p = refl
     at ih Greater p =
         ap (λ t. row_by f x ∷ t)
-        (ih (ap (λ t. t || is_among values_cmp k xs)
+        (ih (ap (λ t. t || is_element values_cmp k xs)
         (sym (ap is_eq p) ∙ eq-flip values_cmp_total values_cmp_exact k x) ∙ has))
 
 -- a row above all others is put behind them

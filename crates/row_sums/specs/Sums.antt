@@ -24,29 +24,37 @@ abbrev pub IsRising : List (List Value) → Type 0
 IsRising groups = IsStrictlySortedBy values_cmp groups
 
 -- whether an element is among others
-abbrev pub is_among : {X : Type 0} → (X → X → Ordering) → X → List X → Bool
-is_among cmp x others = list_any (λ y. is_eq (cmp y x)) others
+abbrev pub is_element : {X : Type 0} → (X → X → Ordering) → X → List X → Bool
+is_element cmp x others = list_any (λ y. is_eq (cmp y x)) others
 
 -- the rows are those of their groups, in order, and a group without a row has sums of 0
 pub record AddsUp (by : Option (List ℕ)) (resources : ℕ) (bs : List Booked) (rows : List SumRow)
     : Type 0 where
   pub rising : IsRising (groups_in rows)
   pub same : rows ≡ map (row_of resources by bs) (groups_in rows)
-  pub covered : (group : List Value) → is_among values_cmp group (groups_in rows) ≡ false
+  pub covered : (group : List Value) → is_element values_cmp group (groups_in rows) ≡ false
       → (resource : ℕ) → resource < resources → total by group bs resource ≡ pos 0
 
 -- the sum at a resource, and 0 where there is none
 abbrev pub sum_at : List ℤ → ℕ → ℤ
 sum_at sums resource = unwrap_or (slice_get sums resource) (pos 0)
 
+-- a number no further from 0 than a bound
+abbrev pub IsWithin : ℕ → ℤ → Type 0
+IsWithin bound n = (neg_ℤ (pos bound) ≤ℤ n) × (n ≤ℤ pos bound)
+
+-- the sums of all rows are within a bound
+abbrev pub AreWithin : ℕ → List SumRow → Type 0
+AreWithin bound rows =
+    AllByRecursion (λ row. (resource : ℕ) → IsWithin bound (sum_at row.sums resource)) rows
+
 -- a number no further from 0 than so many amounts can take it
 abbrev pub IsInReach : ℕ → ℤ → Type 0
-IsInReach count n = (neg_ℤ (pos (2 ^ 63 * count)) ≤ℤ n) × (n ≤ℤ pos (2 ^ 63 * count))
+IsInReach count n = IsWithin (2 ^ 63 * count) n
 
 -- the sums of all rows are no larger than so many amounts can make
 abbrev pub AreInReach : ℕ → List SumRow → Type 0
-AreInReach count rows =
-    AllByRecursion (λ row. (resource : ℕ) → IsInReach count (sum_at row.sums resource)) rows
+AreInReach count rows = AreWithin (2 ^ 63 * count) rows
 
 -- the new rows have these records added to the old ones, whatever those sum
 pub record Adds (by : Option (List ℕ)) (resources : ℕ) (more : List Booked)
@@ -55,6 +63,6 @@ pub record Adds (by : Option (List ℕ)) (resources : ℕ) (more : List Booked)
       → AddsUp by resources (bs ++ more) new
   pub reach : (count : ℕ) → AreInReach count old → AreInReach (count + length more) new
 
--- the amounts of records are such as a record can have
-abbrev pub AreAmounts : List Booked → Type 0
-AreAmounts bs = All (λ b. (resource : ℕ) → IsInReach 1 (amount_at resource b.rec)) bs
+-- the amounts of all records are within a bound
+abbrev pub AreAmounts : ℕ → List Booked → Type 0
+AreAmounts bound bs = All (λ b. (resource : ℕ) → IsWithin bound (amount_at resource b.rec)) bs

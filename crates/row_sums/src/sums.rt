@@ -77,7 +77,8 @@ impl RowSums {
 
     /// The rows that are shown, in order of group.
     pub fn into_shown(self, alloc: Global) -> Result<List<SumRow>, Memory>
-        ensures { (by : Option (List ℕ)) (resources : ℕ) (bs : List Booked)
+        ensures reach { (count : ℕ) → AreInReach count self → IfOk result (AreInReach count) }
+        ensures rows { (by : Option (List ℕ)) (resources : ℕ) (bs : List Booked)
             → AddsUp by resources bs self
             → IfOk result (λ rows. rows ≡ sum_rows resources by bs) }
     {

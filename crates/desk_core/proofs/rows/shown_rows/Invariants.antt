@@ -1,8 +1,0 @@
-use Rattle.std.proofs.Common.{◌≡◌}
-use Rattle.std.specs.List.{filter}
-use Rattle.reg_base.specs.Balances.{is_shown}
-use Rattle.desk_core.specs.Rows.{rows_of}
-use Rattle.desk_core.proofs.rows.shown_rows.Given as goal
-
-abbrev pub invariant-loop-group : goal.invariant-loop-group
-invariant-loop-group l = l.rows ≡ filter is_shown (rows_of l.yielded)
