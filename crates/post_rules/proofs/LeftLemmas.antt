@@ -37,7 +37,7 @@ use Rattle.post_rules.specs.Bounds.{IsReadable, most_read}
 -- ---- numbers and sums
 
 -- a number of a list, or 0 where there is none, is no larger than all are
-pub number-within : (limit : ℕ) (numbers : List ℤ) (j : ℕ)
+number-within : (limit : ℕ) (numbers : List ℤ) (j : ℕ)
     → All (λ n. unsigned_abs n ≤ limit) numbers
     → unsigned_abs (unwrap_or (slice_get numbers j) (pos 0)) ≤ limit
 number-within limit [] j small = omega arith
@@ -51,14 +51,20 @@ signed-within Receipt n limit small = small
 signed-within Turn n limit small = small
 signed-within Expense n limit small = omega (arith, ints, small)
 
+-- the amount of a record is no larger than its numbers
+pub amount-within : (resource : ℕ) (rec : Rec) → HasNumbers rec
+    → unsigned_abs (amount_at resource rec) ≤ largest_units
+amount-within resource rec has =
+    signed-within rec.mark (unwrap_or (slice_get rec.sums resource) (pos 0)) largest_units
+    (number-within largest_units rec.sums resource has)
+
 contribution-within : (by : Option (List ℕ)) (group : List Value) (j : ℕ) (b : Booked)
     → HasNumbers b.rec → unsigned_abs (contribution by group j b) ≤ largest_units
 contribution-within by group j b has = at (is_eq (values_cmp (group_of by b) group))
   where
     at : (belongs : Bool)
         → unsigned_abs (if belongs then amount_at j b.rec else pos 0) ≤ largest_units
-    at true = signed-within b.rec.mark (unwrap_or (slice_get b.rec.sums j) (pos 0)) largest_units
-        (number-within largest_units b.rec.sums j has)
+    at true = amount-within j b.rec has
     at false = omega arith
 
 sum-within : (a b : ℤ) (m n : ℕ) → unsigned_abs a ≤ m → unsigned_abs b ≤ n
