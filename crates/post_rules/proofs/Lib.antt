@@ -4,5 +4,6 @@ pub mod NumberLemmas
 pub mod OwnLemmas
 pub mod PlaceLemmas
 pub mod RangeLemmas
+pub mod ReadLemmas
 pub mod SmallTakes
 pub mod TakeLemmas

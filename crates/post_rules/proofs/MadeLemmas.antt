@@ -1,7 +1,7 @@
 -- What statements make stays small.
 use Rattle.std.proofs.Common.{◌≡◌, ℕ, suc, ◌+◌, ◌*◌, ◌≤◌, ℤ, pos, ◌+ℤ◌, ◌-ℤ◌, unsigned_abs, Bool}
 use Rattle.std.proofs.Common.{true, false, ◌&&◌, Option, None, Some, List, [], ◌∷◌, ◌++◌, length}
-use Rattle.std.proofs.Common.{Result, Ok, Err, IfOk, refl, subst, arith, length-append, set, int_le}
+use Rattle.std.proofs.Common.{Result, Ok, Err, IfOk, refl, sym, subst, arith, length-append, set, int_le}
 use Rattle.std.specs.Prelude.{All, unwrap_or, slice_get, nat_lt, option_map}
 use Rattle.std.specs.Ordering.{int_eq}
 use Rattle.std.specs.List.{list_all, range_with_len}
@@ -204,7 +204,7 @@ small-noted None made small = small
 small-noted (Some item) made small =
     record { sets_within = small.sets_within; cost_within = small.cost_within }
 
-small-act_run : (config : Config) (books : ℕ → List Booked) (scene : Scene) (act : Act)
+pub small-act_run : (config : Config) (books : ℕ → List Booked) (scene : Scene) (act : Act)
     (made : Made) → ((register : ℕ) → IsSheet (books register)) → IsSmallMade made
     → IfOk (act_run config books scene act made) IsSmallMade
 unfolding act_run
@@ -249,3 +249,9 @@ pub kept-by : {X : Type 0} (P : X → Type 0) (result : Result X (Fault PostFaul
     → IfOk result P
 kept-by P (Ok x) definition is of = subst (λ r. IfOk r P) is of
 kept-by P (Err fault) definition is of = tt
+
+-- what a value is known to be has P
+pub IfOk-same : {F X : Type 0} (P : X → Type 0) (r : Result X F) (x : X) → IfOk r (λ y. y ≡ x)
+    → P x → IfOk r P
+IfOk-same P (Ok y) x is of = subst P (sym is) of
+IfOk-same P (Err fault) x is of = tt

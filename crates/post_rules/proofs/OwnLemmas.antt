@@ -5,7 +5,7 @@ use Rattle.std.proofs.Common.{sym, subst, ◌∙◌, arith, append-nil, cond}
 use Rattle.std.specs.Prelude.{All}
 use Rattle.std.specs.List.{filter}
 use Rattle.std.proofs.lemmas.Int.{ints}
-use Rattle.std.proofs.lemmas.List.{map-append, take_more, length-map}
+use Rattle.std.proofs.lemmas.List.{map-append, take_more, length-map, length-take}
 use Rattle.std.proofs.lemmas.List.Elements.{filter-append, All-weaker}
 use Rattle.reg_base.specs.declared.records.Filter.{Filter}
 use Rattle.reg_base.specs.declared.records.Rec.{Rec}
@@ -99,14 +99,16 @@ amounts-sheet bs sheet =
 
 -- sums that begin with the rows of a sheet stay in reach while a document's expenses are added
 pub own-reach : (asked : Filter) (number : ℕ) (by : Option (List ℕ)) (resources : ℕ)
-    (rows old now : List SumRow) (recs : List Rec) → AreRowsOfSheet by resources rows
+    (rows old now : List SumRow) (recs : List Rec) (i : ℕ) → AreRowsOfSheet by resources rows
     → old ≡ rows → length recs ≤ 5_000
-    → Adds by resources (own_expenses asked number recs) old now → AreInReach (2 ^ 46) now
-own-reach asked number by resources rows old now recs sheet begun few adds =
+    → Adds by resources (own_expenses asked number (take i recs)) old now
+    → AreInReach (2 ^ 46) now
+own-reach asked number by resources rows old now recs i sheet begun few adds =
     let count : ℕ = length sheet.records in
+    let own : List Booked = own_expenses asked number (take i recs) in
     let first : AreInReach count old =
         subst (AreInReach count) (sym (begun ∙ sheet.same))
         (reach-sum_rows resources by sheet.records (amounts-sheet sheet.records sheet.sheet)) in
-    reach-more (count + length (own_expenses asked number recs)) (2 ^ 46)
-    (omega (arith, sheet.sheet.few, length-own asked number recs, few)) now
-    (adds.reach count first)
+    reach-more (count + length own) (2 ^ 46)
+    (omega (arith, sheet.sheet.few, length-own asked number (take i recs), length-take i recs, few))
+    now (adds.reach count first)

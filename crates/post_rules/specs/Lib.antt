@@ -1,5 +1,5 @@
+pub mod ActParts
 pub mod Bounds
-pub mod Expenses
 pub mod SceneViews
 pub mod Sheets
 pub mod Tries
