@@ -1,8 +1,7 @@
 -- A document's own expenses, one record more, and how large sums get.
-use Rattle.std.proofs.Common.{◌≡◌, ℕ, ◌+◌, ◌<◌, ◌≤◌, ◌^◌, ℤ, pos, unsigned_abs, Bool, true, false}
+use Rattle.std.proofs.Common.{◌≡◌, ℕ, ◌+◌, ◌<◌, ◌≤◌, ◌^◌, ℤ, unsigned_abs, Bool, true, false}
 use Rattle.std.proofs.Common.{◌&&◌, Option, List, [], ◌∷◌, ◌++◌, map, take, length, get_or, refl, ap}
 use Rattle.std.proofs.Common.{sym, subst, ◌∙◌, arith, append-nil, cond}
-use Rattle.std.specs.Prelude.{All}
 use Rattle.std.specs.List.{filter}
 use Rattle.std.proofs.lemmas.Int.{ints}
 use Rattle.std.proofs.lemmas.List.{map-append, take_more, length-map, length-take}
@@ -13,7 +12,7 @@ use Rattle.reg_base.specs.declared.records.SumRow.{SumRow}
 use Rattle.reg_base.specs.Numbers.{largest_units}
 use Rattle.reg_base.specs.Records.{Booked, matches, amount_at}
 use Rattle.row_sums.specs.Sums.{booked, IsInReach, AreInReach, AreAmounts, Adds}
-use Rattle.row_sums.proofs.ForAbove.{Adds-none, Adds-both, reach-more, reach-sum_rows}
+use Rattle.row_sums.proofs.ForAbove.{Adds-both, reach-more, reach-sum_rows}
 use Rattle.post_model.specs.Lefts.{is_expense}
 use Rattle.post_rules.specs.Sheets.{HasNumbers, IsSheet}
 use Rattle.post_rules.specs.Bounds.{own_expenses, AreRowsOfSheet}
@@ -83,9 +82,13 @@ module _ (asked : Filter) (number : ℕ) where
   length-own : (recs : List Rec) → length (own_expenses asked number recs) ≤ length recs
   length-own recs =
       let spent : Rec → Bool = λ r. is_expense r.mark in
-      omega (arith, length-filter_le (λ (b : Booked). matches asked b.rec.values)
-      (map (booked number) (filter spent recs)), length-map (filter spent recs) (booked number),
-      length-filter_le spent recs)
+      omega (
+        arith,
+        length-filter_le (λ (b : Booked). matches asked b.rec.values)
+            (map (booked number) (filter spent recs)),
+        length-map (filter spent recs) (booked number),
+        length-filter_le spent recs,
+      )
 
 reach-one : (n : ℤ) → unsigned_abs n ≤ largest_units → IsInReach 1 n
 reach-one n small = (omega (arith, ints, small), omega (arith, ints, small))
@@ -107,8 +110,8 @@ own-reach asked number by resources rows old now recs i sheet begun few adds =
     let count : ℕ = length sheet.records in
     let own : List Booked = own_expenses asked number (take i recs) in
     let first : AreInReach count old =
-        subst (AreInReach count) (sym (begun ∙ sheet.same))
-        (reach-sum_rows resources by sheet.records (amounts-sheet sheet.records sheet.sheet)) in
+    subst (AreInReach count) (sym (begun ∙ sheet.same))
+    (reach-sum_rows resources by sheet.records (amounts-sheet sheet.records sheet.sheet)) in
     reach-more (count + length own) (2 ^ 46)
     (omega (arith, sheet.sheet.few, length-own asked number (take i recs), length-take i recs, few))
     now (adds.reach count first)

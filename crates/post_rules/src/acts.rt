@@ -163,15 +163,7 @@ fn run_write_off<B: Balances>(
 {
     let item = read_item(alloc, config, scene, register, binds)?;
     let holdings = holdings_left(
-        alloc,
-        view,
-        config,
-        scene.doc,
-        &made.sets,
-        &item,
-        fifo,
-        quantity,
-        amount,
+        alloc, view, config, scene.doc, &made.sets, &item, fifo, quantity, amount,
     )?;
     let made = noted(item, made)?;
     let holdings = holdings.as_slice();

@@ -41,7 +41,9 @@ pub(crate) fn written_off(
         quantity amount made takes.now) }
 {
     made.cost = cost_of(takes);
-    expenses_made(alloc, config, scene, register, binds, quantity, amount, takes, made)
+    expenses_made(
+        alloc, config, scene, register, binds, quantity, amount, takes, made,
+    )
 }
 
 // An expense for each that was taken, in order.

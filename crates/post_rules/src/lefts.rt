@@ -151,10 +151,7 @@ fn holdings_in(
 fn sum_in(row: &SumRow, resource: u8) -> i128
     ensures { result ≡ sum_in_of row.now resource }
 {
-    row.sums
-        .get(usize::from(resource))
-        .copied()
-        .unwrap_or(0)
+    row.sums.get(usize::from(resource)).copied().unwrap_or(0)
 }
 
 // The sum of the first row at a resource, and 0 without one.
