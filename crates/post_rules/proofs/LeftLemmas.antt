@@ -1,8 +1,8 @@
 -- What is left of records is not too many records with numbers that are not too large, and so are
 -- the holdings of it.
-use Rattle.std.proofs.Common.{◌≡◌, ℕ, zero, suc, ◌+◌, ◌*◌, ◌≤◌, ℤ, pos, ◌+ℤ◌, neg_ℤ, unsigned_abs}
-use Rattle.std.proofs.Common.{Bool, true, false, Option, None, Some, List, [], ◌∷◌, ◌++◌, map, cond}
-use Rattle.std.proofs.Common.{length, refl, sym, subst, ◌∙◌, ap, arith, length-append}
+use Rattle.std.proofs.Common.{ℕ, zero, suc, ◌+◌, ◌*◌, ◌≤◌, ℤ, pos, ◌+ℤ◌, unsigned_abs}
+use Rattle.std.proofs.Common.{Bool, true, false, Option, Some, List, [], ◌∷◌, map, cond}
+use Rattle.std.proofs.Common.{length, arith, length-append}
 use Rattle.std.specs.Prelude.{All, unwrap_or, slice_get, slice_index_or, if◌then◌else◌}
 use Rattle.std.specs.List.{filter, range_with_len}
 use Rattle.std.specs.Ordering.{is_eq, match_ordering}
@@ -13,7 +13,6 @@ use Rattle.std.proofs.lemmas.List.{length-map}
 use Rattle.std.proofs.lemmas.List.Elements.{All-nil, All-append, All-filter, All-map, All-head}
 use Rattle.std.proofs.lemmas.List.Elements.{All-tail, All-weaker}
 use Rattle.reg_base.specs.declared.records.Doc.{Doc}
-use Rattle.reg_base.specs.declared.records.Filter.{Filter}
 use Rattle.reg_base.specs.declared.records.Item.{Item}
 use Rattle.reg_base.specs.declared.records.Mark.{Mark}
 use Rattle.reg_base.specs.declared.records.Mark.TheVariants.{Receipt, Expense, Turn}
@@ -26,18 +25,17 @@ use Rattle.reg_base.specs.Records.{Booked, values_cmp, put_once, amount_at, sign
 use Rattle.reg_base.specs.Balances.{group_of, groups_of, contribution, total, row_of, is_shown}
 use Rattle.reg_base.specs.Balances.{sum_rows}
 use Rattle.cfg_model.specs.declared.config.Config.{Config}
-use Rattle.post_model.specs.declared.holding.Holding.{Holding}
-use Rattle.post_model.specs.Lefts.{is_expense, filter_of, seen_of, left_of, expenses_of}
-use Rattle.post_model.specs.WriteOffs.{sum_in, holding_of}
+use Rattle.post_model.specs.Lefts.{is_expense, filter_of, seen_of, left_of}
+use Rattle.post_model.specs.WriteOffs.{holding_of}
 use Rattle.post_model.specs.Yields.{told_apart, depth_of, holdings_of}
 use Rattle.post_rules.specs.Sheets.{HasNumbers, IsSheet}
 use Rattle.post_rules.specs.Bounds.{IsSmallSet, IsSmallHolding, AreSmallHoldings, largest_sum}
-use Rattle.post_rules.specs.Bounds.{IsReadable, most_read}
+use Rattle.post_rules.specs.Bounds.{IsReadable}
 
 -- ---- numbers and sums
 
 -- a number of a list, or 0 where there is none, is no larger than all are
-pub number-within : (limit : ℕ) (numbers : List ℤ) (j : ℕ)
+number-within : (limit : ℕ) (numbers : List ℤ) (j : ℕ)
     → All (λ n. unsigned_abs n ≤ limit) numbers
     → unsigned_abs (unwrap_or (slice_get numbers j) (pos 0)) ≤ limit
 number-within limit [] j small = omega arith
@@ -51,14 +49,20 @@ signed-within Receipt n limit small = small
 signed-within Turn n limit small = small
 signed-within Expense n limit small = omega (arith, ints, small)
 
+-- the amount of a record is no larger than its numbers
+pub amount-within : (resource : ℕ) (rec : Rec) → HasNumbers rec
+    → unsigned_abs (amount_at resource rec) ≤ largest_units
+amount-within resource rec has =
+    signed-within rec.mark (unwrap_or (slice_get rec.sums resource) (pos 0)) largest_units
+    (number-within largest_units rec.sums resource has)
+
 contribution-within : (by : Option (List ℕ)) (group : List Value) (j : ℕ) (b : Booked)
     → HasNumbers b.rec → unsigned_abs (contribution by group j b) ≤ largest_units
 contribution-within by group j b has = at (is_eq (values_cmp (group_of by b) group))
   where
     at : (belongs : Bool)
         → unsigned_abs (if belongs then amount_at j b.rec else pos 0) ≤ largest_units
-    at true = signed-within b.rec.mark (unwrap_or (slice_get b.rec.sums j) (pos 0)) largest_units
-        (number-within largest_units b.rec.sums j has)
+    at true = amount-within j b.rec has
     at false = omega arith
 
 sum-within : (a b : ℤ) (m n : ℕ) → unsigned_abs a ≤ m → unsigned_abs b ≤ n
@@ -71,11 +75,14 @@ total-within : (by : Option (List ℕ)) (group : List Value) (bs : List Booked) 
 total-within by group [] j small = omega arith
 total-within by group (b ∷ bs) j small =
     let first : unsigned_abs (contribution by group j b) ≤ largest_units =
-        contribution-within by group j b (All-head (λ b. HasNumbers b.rec) b bs small) in
+    contribution-within by group j b (All-head (λ b. HasNumbers b.rec) b bs small) in
     let rest : unsigned_abs (total by group bs j) ≤ length bs * largest_units =
-        total-within by group bs j (All-tail (λ b. HasNumbers b.rec) b bs small) in
-    omega (arith, sum-within (contribution by group j b) (total by group bs j) largest_units
-    (length bs * largest_units) first rest)
+    total-within by group bs j (All-tail (λ b. HasNumbers b.rec) b bs small) in
+    omega (
+      arith,
+      sum-within (contribution by group j b) (total by group bs j) largest_units
+          (length bs * largest_units) first rest,
+    )
 
 -- ---- rows and holdings
 
@@ -111,8 +118,12 @@ length-sum_rows : (n : ℕ) (by : Option (List ℕ)) (bs : List Booked)
     → length (sum_rows n by bs) ≤ length bs
 unfolding sum_rows
 length-sum_rows n by bs =
-    omega (arith, length-filter_le is_shown (map (row_of n by bs) (groups_of by bs)),
-    length-map (groups_of by bs) (row_of n by bs), length-groups_of by bs)
+    omega (
+      arith,
+      length-filter_le is_shown (map (row_of n by bs) (groups_of by bs)),
+      length-map (groups_of by bs) (row_of n by bs),
+      length-groups_of by bs,
+    )
 
 -- the sums of a row are small
 abbrev IsSmallRow : SumRow → Type 0
@@ -150,8 +161,12 @@ AreSmall-holdings_of config fifo register quantity amount left readable =
     let n : ℕ = depth_of config register in
     let by : Option (List ℕ) = Some (told_apart config register fifo) in
     record {
-      few = omega (arith, length-map (sum_rows n by left) (holding_of quantity amount),
-          length-sum_rows n by left, readable.few);
+      few = omega (
+        arith,
+        length-map (sum_rows n by left) (holding_of quantity amount),
+        length-sum_rows n by left,
+        readable.few,
+      );
       small = All-map IsSmallHolding (holding_of quantity amount) (sum_rows n by left)
           (All-weaker IsSmallRow (λ row. IsSmallHolding (holding_of quantity amount row))
           (small-holding_of quantity amount) (sum_rows n by left)
@@ -192,9 +207,15 @@ IsReadable-left_of books doc sets item sheet small =
     let spent : List Rec = filter (λ r. is_expense r.mark) recs in
     let asked : Booked → Bool = λ b. matches (filter_of item) b.rec.values in
     record {
-      few = omega (arith, length-append (seen_of books doc item) (filter asked (map own spent)),
-          seen.few, length-filter_le asked (map own spent), length-map spent own,
-          length-filter_le (λ (r : Rec). is_expense r.mark) recs, set.few);
+      few = omega (
+        arith,
+        length-append (seen_of books doc item) (filter asked (map own spent)),
+        seen.few,
+        length-filter_le asked (map own spent),
+        length-map spent own,
+        length-filter_le (λ (r : Rec). is_expense r.mark) recs,
+        set.few,
+      );
       small = All-append (λ b. HasNumbers b.rec) (seen_of books doc item)
           (filter asked (map own spent)) seen.small
           (All-filter asked (λ b. HasNumbers b.rec) (map own spent)

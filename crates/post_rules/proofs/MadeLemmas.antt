@@ -1,13 +1,12 @@
 -- What statements make stays small.
-use Rattle.std.proofs.Common.{◌≡◌, ℕ, suc, ◌+◌, ◌*◌, ◌≤◌, ℤ, pos, ◌+ℤ◌, ◌-ℤ◌, unsigned_abs, Bool}
+use Rattle.std.proofs.Common.{◌≡◌, ℕ, ◌+◌, ◌*◌, ◌≤◌, ℤ, pos, ◌+ℤ◌, ◌-ℤ◌, unsigned_abs, Bool}
 use Rattle.std.proofs.Common.{true, false, ◌&&◌, Option, None, Some, List, [], ◌∷◌, ◌++◌, length}
-use Rattle.std.proofs.Common.{Result, Ok, Err, IfOk, refl, subst, arith, length-append, set, int_le}
+use Rattle.std.proofs.Common.{Result, Ok, Err, IfOk, refl, sym, subst, arith, length-append, set, int_le}
 use Rattle.std.specs.Prelude.{All, unwrap_or, slice_get, nat_lt, option_map}
 use Rattle.std.specs.Ordering.{int_eq}
 use Rattle.std.specs.List.{list_all, range_with_len}
 use Rattle.std.proofs.lemmas.Int.{ints}
 use Rattle.std.proofs.lemmas.List.Elements.{All-nil, All-cons, All-head, All-tail, All-set, All-push}
-use Rattle.std.proofs.lemmas.List.Elements.{All-replicate}
 use Rattle.reg_base.specs.declared.fault.PostFault.{PostFault}
 use Rattle.reg_base.specs.declared.fault.PostFault.TheVariants.{Negative, Shortage, Broken}
 use Rattle.reg_base.specs.declared.fault.PostFault.TheVariants.{TooManyRecords}
@@ -19,15 +18,13 @@ use Rattle.reg_base.specs.declared.records.Side.{Side}
 use Rattle.reg_base.specs.declared.value.Value.{Value}
 use Rattle.reg_base.specs.Numbers.{largest_units}
 use Rattle.reg_base.specs.Records.{Booked}
-use Rattle.reg_base.specs.Results.{◌>>=◌, unless}
 use Rattle.reg_base.proofs.ForAbove.{IfOk-then, IfOk-next, IfOk-unless}
 use Rattle.cfg_model.specs.declared.config.Config.{Config}
 use Rattle.cfg_model.specs.declared.ledger.Chart.{Chart}
 use Rattle.rule_lang.specs.declared.statement.Act.{Act}
 use Rattle.rule_lang.specs.declared.statement.Act.TheVariants.{Make, WriteOff, Require, Control}
 use Rattle.rule_lang.specs.declared.statement.Act.TheVariants.{Entry}
-use Rattle.rule_lang.specs.declared.statement.Statement.{Statement}
-use Rattle.post_model.specs.Scenes.{Scene, is_number, overflow, sum_value, when_holds}
+use Rattle.post_model.specs.Scenes.{Scene, is_number, overflow, sum_value}
 use Rattle.post_model.specs.declared.holding.Holding.{Holding}
 use Rattle.post_model.specs.declared.made.Made.{Made}
 use Rattle.post_model.specs.Lefts.{read_of, found_by}
@@ -37,11 +34,10 @@ use Rattle.post_model.specs.Makes.{unless_zero, with_registers, with_ledgers, re
 use Rattle.post_model.specs.Makes.{expenses_made, entry_made, numbers_for, mark_of, values_with}
 use Rattle.post_model.specs.Makes.{taken_numbers, checked, entry_behind, side_value}
 use Rattle.post_model.specs.Yields.{width_of, depth_of, holdings_of, written_off, left_sum, act_on}
-use Rattle.post_model.specs.Yields.{noted, passed_over, act_run, run_if, statement_run}
-use Rattle.post_model.specs.Yields.{nothing_made}
+use Rattle.post_model.specs.Yields.{noted, act_run}
 use Rattle.post_rules.specs.declared.fault.Fault.{Fault}
 use Rattle.post_rules.specs.Sheets.{HasNumbers, IsSheet}
-use Rattle.post_rules.specs.Bounds.{largest_sum, largest_part, IsSmallHolding, AreSmallHoldings}
+use Rattle.post_rules.specs.Bounds.{largest_sum, IsSmallHolding, AreSmallHoldings}
 use Rattle.post_rules.specs.Bounds.{IsSmallSet, IsSmallMade, IsReadable}
 use Rattle.post_rules.specs.Tries.{Tries}
 use Rattle.post_rules.proofs.LeftLemmas.{small-place, IsReadable-left_of, AreSmall-holdings_of}
@@ -58,7 +54,7 @@ numbers-within : (numbers : List ℤ) → list_all is_number numbers ≡ true
 numbers-within [] all = All-nil _
 numbers-within (n ∷ ns) all =
     let parts : (is_number n ≡ true) × (list_all is_number ns ≡ true) =
-        both-true (is_number n) (list_all is_number ns) all in
+    both-true (is_number n) (list_all is_number ns) all in
     All-cons (λ n. unsigned_abs n ≤ largest_units) n ns (grind (arith, parts.0))
     (numbers-within ns parts.1)
 
@@ -148,9 +144,12 @@ cost-within [] small = omega arith
 cost-within (h ∷ hs) small =
     let first : IsSmallHolding h = All-head IsSmallHolding h hs small in
     let rest : unsigned_abs (cost_of hs) ≤ length hs * largest_sum =
-        cost-within hs (All-tail IsSmallHolding h hs small) in
-    omega (arith, sum-within h.amount (cost_of hs) largest_sum (length hs * largest_sum)
-    first.amount_within rest)
+    cost-within hs (All-tail IsSmallHolding h hs small) in
+    omega (
+      arith,
+      sum-within h.amount (cost_of hs) largest_sum (length hs * largest_sum)
+          first.amount_within rest,
+    )
 
 -- ---- acts
 
@@ -204,7 +203,8 @@ small-noted None made small = small
 small-noted (Some item) made small =
     record { sets_within = small.sets_within; cost_within = small.cost_within }
 
-small-act_run : (config : Config) (books : ℕ → List Booked) (scene : Scene) (act : Act)
+-- what an act makes stays small
+pub small-act_run : (config : Config) (books : ℕ → List Booked) (scene : Scene) (act : Act)
     (made : Made) → ((register : ℕ) → IsSheet (books register)) → IsSmallMade made
     → IfOk (act_run config books scene act made) IsSmallMade
 unfolding act_run
@@ -214,38 +214,15 @@ small-act_run config books scene act made sheets small =
     (IsReadable-found_by books scene made (read_of config scene act) sheets small)
     (small-noted (read_of config scene act) made small)
 
-small-passed_over : (act : Act) (made : Made) → IsSmallMade made
-    → IsSmallMade (passed_over act made)
-small-passed_over (WriteOff fifo register binds quantity wanted amount) made small =
-    record { sets_within = small.sets_within; cost_within = omega arith }
-small-passed_over (Make verb register binds sums) made small = small
-small-passed_over (Require register binds resource least code) made small = small
-small-passed_over (Control register resource) made small = small
-small-passed_over (Entry ledger debit credit amount) made small = small
-
--- what a statement makes stays small
-pub small-statement_run : (config : Config) (books : ℕ → List Booked) (scene : Scene)
-    (statement : Statement) (made : Made) → ((register : ℕ) → IsSheet (books register))
-    → IsSmallMade made → IfOk (statement_run config books scene statement made) IsSmallMade
-unfolding statement_run
-small-statement_run config books scene statement made sheets small =
-    IfOk-next IsSmallMade (when_holds scene statement.when) _ at
-  where
-    at : (holds : Bool) → IfOk (run_if holds config books scene statement.act made) IsSmallMade
-    at true = small-act_run config books scene statement.act made sheets small
-    at false = small-passed_over statement.act made small
-
--- nothing made yet is small
-pub small-nothing_made : (config : Config) → IsSmallMade (nothing_made config)
-small-nothing_made config = record {
-  sets_within = All-replicate IsSmallSet (length config.registers) []
-      (record { few = omega arith; small = All-nil HasNumbers });
-  cost_within = omega arith;
-}
-
 -- what holds of the value of a definition holds of what a call makes
 pub kept-by : {X : Type 0} (P : X → Type 0) (result : Result X (Fault PostFault))
     (definition : Result X PostFault) → Tries result definition → IfOk definition P
     → IfOk result P
 kept-by P (Ok x) definition is of = subst (λ r. IfOk r P) is of
 kept-by P (Err fault) definition is of = tt
+
+-- what a value is known to be has P
+pub IfOk-same : {F X : Type 0} (P : X → Type 0) (r : Result X F) (x : X) → IfOk r (λ y. y ≡ x)
+    → P x → IfOk r P
+IfOk-same P (Ok y) x is of = subst P (sym is) of
+IfOk-same P (Err fault) x is of = tt

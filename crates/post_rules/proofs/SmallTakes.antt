@@ -22,8 +22,8 @@ nearest-within : (a t h : ℕ) → 0 < h → t ≤ h → nearest (a * t) h ≤ a
 nearest-within a t h above within =
     let part : a * t ≤ a * h = mul-le a t a h (omega arith) within in
     let below : (2 * (a * t) + h) / (2 * h) < a + 1 =
-        div_below (2 * (a * t) + h) (2 * h) (a + 1) (omega (arith, above))
-        (omega (arith, part, above)) in
+    div_below (2 * (a * t) + h) (2 * h) (a + 1) (omega (arith, above))
+    (omega (arith, part, above)) in
     omega (arith, below)
 
 -- a share is no larger than the amount
@@ -47,9 +47,12 @@ small-taken_from quantity h above within small = record {
     at : (b : Bool) → unsigned_abs (if b then h.amount else share h.amount quantity h.quantity)
         ≤ largest_sum
     at true = small.amount_within
-    at false = omega (arith, share-within h.amount quantity h.quantity
-        (omega (arith, ints, within, above)) (omega (arith, ints, within, above)),
-        small.amount_within)
+    at false = omega (
+      arith,
+      share-within h.amount quantity h.quantity
+          (omega (arith, ints, within, above)) (omega (arith, ints, within, above)),
+      small.amount_within,
+    )
 
 small-with_taken : (quantity : ℤ) (h : Holding) (more : List Holding)
     → (int_lt (pos 0) quantity ≡ true → IsSmallHolding (taken_from quantity h))
@@ -87,8 +90,11 @@ unfolding taken
 length-taken wanted [] = omega arith
 length-taken wanted (h ∷ hs) =
     let part : ℤ = int_min wanted (in_stock h) in
-    omega (arith, length-with_taken part h (taken (wanted -ℤ part) hs),
-    length-taken (wanted -ℤ part) hs)
+    omega (
+      arith,
+      length-with_taken part h (taken (wanted -ℤ part) hs),
+      length-taken (wanted -ℤ part) hs,
+    )
 
 -- what is taken is no more and no larger
 pub AreSmall-taken : (wanted : ℤ) (hs : List Holding) → pos 0 ≤ℤ wanted → AreSmallHoldings hs

@@ -15,7 +15,7 @@ use Rattle.post_model.specs.Yields.{depth_of}
 use Rattle.post_model.specs.declared.holding.Holding.{Holding}
 use Rattle.post_model.specs.declared.made.Made.{Made}
 use Rattle.post_rules.specs.Sheets.{HasNumbers, IsSheet}
-use Rattle.post_rules.specs.Sums.{booked}
+use Rattle.row_sums.specs.Sums.{booked}
 
 -- the most records that are read at once: those of a register, and the document's own there
 abbrev pub most_read : ℕ

@@ -1,5 +1,5 @@
--- What posting asks of the records that it reads, and of the document.
-use Rattle.std.specs.Prelude.{ℕ, ◌≤◌, List, length, All, unsigned_abs}
+-- What posting asks of the records that it reads.
+use Rattle.std.specs.Prelude.{◌≤◌, List, length, All, unsigned_abs}
 use Rattle.reg_base.specs.declared.records.Rec.{Rec}
 use Rattle.reg_base.specs.Numbers.{largest_units}
 use Rattle.reg_base.specs.Records.{Booked}

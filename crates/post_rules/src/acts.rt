@@ -1,11 +1,14 @@
 //! Acts, each in a function of its own.
 ghost use Rattle.std.specs.Prelude.{◌≡◌, [], ◌∷◌, ◌++◌, All, Some, IfOk};
 ghost use Rattle.rule_lang.specs.declared.statement.Act.TheVariants.{Make, WriteOff, Require};
-ghost use Rattle.rule_lang.specs.declared.statement.Act.TheVariants.{Entry};
+ghost use Rattle.rule_lang.specs.declared.statement.Act.TheVariants.{Control, Entry};
 ghost use Rattle.reg_base.specs.declared.fault.PostFault.TheVariants.{Broken};
+ghost use Rattle.cfg_model.specs.declared.config.Config.{Config};
+ghost use Rattle.post_model.specs.Scenes.{Scene as SceneOf};
 ghost use Rattle.post_model.specs.Yields.{act_on, act_run, noted as noted_in};
 ghost use Rattle.post_model.specs.Yields.{passed_over as passed_over_by};
-ghost use Rattle.post_rules.specs.Bounds.{CanRead, IsSmallScene, IsSmallSet};
+ghost use Rattle.post_rules.specs.ActParts.{written_from, required_of};
+ghost use Rattle.post_rules.specs.Bounds.{CanRead, IsSmallScene, IsSmallSet, AreSmallHoldings};
 ghost use Rattle.post_rules.specs.SceneViews.{scene_view};
 ghost use Rattle.post_rules.specs.Tries.{Tries};
 ghost use Rattle.post_rules.specs.declared.fault.Fault.TheVariants.{Refused};
@@ -19,10 +22,10 @@ use crate::places::{depth_of, width_of};
 use crate::reads::read_item;
 use crate::records::{mark_of, record_made};
 use crate::scene::Scene;
-use crate::stand_ins::Balances;
 use crate::write_offs::write_off;
 use cfg_model::Config;
-use post_model::Made;
+use doc_store::Balances;
+use post_model::{Holding, Made};
 use reg_base::{Code, Item, Memory, PostFault};
 use rule_lang::{Act, Bind, Place, Sum, Verb};
 use std::alloc::Global;
@@ -97,7 +100,7 @@ pub(crate) fn run_act<B: Balances>(
             *code,
             made,
         ),
-        Act::Control { register, resource } => Ok(controlled(*register, *resource, made)?),
+        Act::Control { register, resource } => control(*register, *resource, made),
         Act::Entry {
             ledger,
             debit,
@@ -139,7 +142,6 @@ fn make(
 }
 
 // A write-off, by the order of lots or by the average.
-#[tactic(auto, unfolding(post_model::specs::Yields::act_run, post_model::specs::Yields::act_on))]
 fn run_write_off<B: Balances>(
     alloc: Global,
     view: &B,
@@ -161,34 +163,43 @@ fn run_write_off<B: Balances>(
 {
     let item = read_item(alloc, config, scene, register, binds)?;
     let holdings = holdings_left(
-        alloc,
-        view,
-        config,
-        scene.doc,
-        &made.sets,
-        &item,
-        fifo,
-        quantity,
-        amount,
+        alloc, view, config, scene.doc, &made.sets, &item, fifo, quantity, amount,
     )?;
     let made = noted(item, made)?;
+    let holdings = holdings.as_slice();
+    write_off_from(
+        alloc, config, scene, register, binds, quantity, wanted, amount, holdings, made,
+    )
+}
+
+// A write-off from holdings.
+#[tactic(auto, unfolding(crate::specs::ActParts::written_from))]
+fn write_off_from(
+    alloc: Global,
+    config: &Config,
+    scene: &Scene,
+    register: u8,
+    binds: &[Bind],
+    quantity: u8,
+    wanted: &Sum,
+    amount: u8,
+    holdings: &[Holding],
+    made: Made,
+) -> Tried<Made>
+    requires scene { IsSmallScene (scene_view scene.now) }
+    requires small { AreSmallHoldings holdings.now }
+    ensures { Tries result (written_from config.now (scene_view scene.now) register binds.now
+        quantity wanted.now amount holdings.now made) }
+{
     let wanted = scene.sum(wanted)?;
-    let takes = write_off(alloc, scene, wanted, holdings.as_slice())?;
+    let takes = write_off(alloc, scene, wanted, holdings)?;
+    let takes = takes.as_slice();
     written_off(
-        alloc,
-        config,
-        scene,
-        register,
-        binds,
-        quantity,
-        amount,
-        made,
-        takes.as_slice(),
+        alloc, config, scene, register, binds, quantity, amount, made, takes,
     )
 }
 
 // A requirement: so much is left, or the code is told.
-#[tactic(auto, unfolding(post_model::specs::Yields::act_run, post_model::specs::Yields::act_on))]
 fn require<B: Balances>(
     alloc: Global,
     view: &B,
@@ -210,6 +221,15 @@ fn require<B: Balances>(
     let item = read_item(alloc, config, scene, register, binds)?;
     let left = sum_left(alloc, view, config, scene.doc, &made.sets, &item, resource)?;
     let made = noted(item, made)?;
+    required(scene, least, code, left, made)
+}
+
+// A requirement where so much is left.
+#[tactic(auto, unfolding(crate::specs::ActParts::required_of))]
+fn required(scene: &Scene, least: &Sum, code: Code, left: i128, made: Made) -> Tried<Made>
+    requires { IsSmallScene (scene_view scene.now) }
+    ensures { Tries result (required_of (scene_view scene.now) least.now code left made) }
+{
     let least = scene.sum(least)?;
     if i128::from(least) > left {
         return Err(broken(scene, code));
@@ -229,6 +249,15 @@ fn broken(scene: &Scene, code: Code) -> YieldFault
 }
 
 // A control, behind the others.
+#[tactic(auto, unfolding(post_model::specs::Yields::act_on))]
+fn control(register: u8, resource: u8, made: Made) -> Tried<Made>
+    ensures { (config : Config) (scene : SceneOf)
+        → Tries result (act_on config scene (Control register resource) [] made) }
+{
+    let made = controlled(register, resource, made)?;
+    Ok(made)
+}
+
 fn controlled(register: u8, resource: u8, mut made: Made) -> Result<Made, Memory>
     ensures { IfOk result (λ new. new
         ≡ record made { controls = made.controls ++ (register, resource) ∷ [] }) }

@@ -88,12 +88,7 @@ fn checked(
 
 // The chart accepts the sides, or the entry is refused.
 #[tactic(auto, unfolding(post_model::specs::Makes::checked))]
-fn accepted(
-    chart: &Chart,
-    scene: &Scene,
-    debit: &Option<Side>,
-    credit: &Option<Side>,
-) -> Tried<()>
+fn accepted(chart: &Chart, scene: &Scene, debit: &Option<Side>, credit: &Option<Side>) -> Tried<()>
     ensures { Tries result
         (checked_of (scene_view scene.now) (Some chart.now) debit.now credit.now) }
 {

@@ -7,7 +7,7 @@ ghost use Rattle.post_model.specs.Makes.{taken_numbers as taken_numbers_of};
 ghost use Rattle.post_model.specs.Yields.{written_off as written_off_of};
 ghost use Rattle.post_model.specs.Yields.{width_of as width_at, depth_of as depth_at};
 ghost use Rattle.post_rules.specs.Bounds.{AreSmallHoldings};
-ghost use Rattle.post_rules.specs.Expenses.{expenses_of};
+ghost use Rattle.post_rules.specs.ActParts.{expenses_of};
 ghost use Rattle.post_rules.specs.SceneViews.{scene_view};
 ghost use Rattle.post_rules.specs.Tries.{Tries};
 
@@ -41,7 +41,9 @@ pub(crate) fn written_off(
         quantity amount made takes.now) }
 {
     made.cost = cost_of(takes);
-    expenses_made(alloc, config, scene, register, binds, quantity, amount, takes, made)
+    expenses_made(
+        alloc, config, scene, register, binds, quantity, amount, takes, made,
+    )
 }
 
 // An expense for each that was taken, in order.

@@ -11,10 +11,11 @@ ghost use Rattle.post_rules.specs.Bounds.{own_expenses, first_sum as first_sum_o
 use crate::places::{depth_of, told_apart};
 use crate::reads::filter_of;
 use crate::scene::own_point;
-use crate::stand_ins::{Balances, RowSums, matches};
 use cfg_model::Config;
+use doc_store::Balances;
 use post_model::Holding;
-use reg_base::{Cut, Doc, Filter, Item, List, Mark, Memory, Rec, Sets, SumRow};
+use reg_base::{Cut, Doc, Filter, Item, List, Mark, Memory, Rec, Sets, SumRow, Value};
+use row_sums::{RowSums, matches};
 use std::alloc::Global;
 
 // The holdings of what is left: by lots, or all in one.
@@ -136,30 +137,21 @@ fn holdings_in(
 {
     let mut holdings = List::new(alloc);
     'rows: for row in rows {
-        holdings.push(holding_of(row, quantity, amount))?;
+        let lot: Option<Value> = row.group.get(0).copied();
+        holdings.push(Holding {
+            lot,
+            quantity: sum_in(row, quantity),
+            amount: sum_in(row, amount),
+        })?;
     }
     Ok(holdings)
-}
-
-// What a row tells of a lot: its quantity and its amount at these resources.
-fn holding_of(row: &SumRow, quantity: u8, amount: u8) -> Holding
-    ensures { result ≡ holding_in quantity amount row.now }
-{
-    Holding {
-        lot: row.group.get(0).copied(),
-        quantity: sum_in(row, quantity),
-        amount: sum_in(row, amount),
-    }
 }
 
 // The sum of a row at a resource, and 0 where there is none.
 fn sum_in(row: &SumRow, resource: u8) -> i128
     ensures { result ≡ sum_in_of row.now resource }
 {
-    row.sums
-        .get(usize::from(resource))
-        .copied()
-        .unwrap_or(0)
+    row.sums.get(usize::from(resource)).copied().unwrap_or(0)
 }
 
 // The sum of the first row at a resource, and 0 without one.

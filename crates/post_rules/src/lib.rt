@@ -24,11 +24,9 @@ mod reads;
 mod records;
 mod rounds;
 mod scene;
-mod stand_ins;
 mod terms;
 mod write_offs;
 mod yields;
 
 pub use fault::{Fault, YieldFault};
-pub use stand_ins::Balances;
 pub use yields::yield_sets;

@@ -162,11 +162,7 @@ fn record_behind(
 // The list at a place, and an empty one where there is no such place; an empty one stands there
 // then.
 #[tactic(auto, using(crate::proofs::PlaceLemmas::set_twice))]
-pub(crate) fn taken_out<X: Drop>(
-    alloc: Global,
-    lists: &mut Vec<List<X>>,
-    place: usize,
-) -> List<X>
+pub(crate) fn taken_out<X: Drop>(alloc: Global, lists: &mut Vec<List<X>>, place: usize) -> List<X>
     ensures list { result ≡ unwrap_or (slice_get lists.old.items place) [] }
     ensures others { (xs : List X) → set lists.new.items place xs ≡ set lists.old.items place xs }
 {

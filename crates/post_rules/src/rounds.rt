@@ -10,8 +10,8 @@ ghost use Rattle.post_rules.specs.Tries.{Tries};
 use crate::acts::{passed_over, run_act};
 use crate::fault::Tried;
 use crate::scene::Scene;
-use crate::stand_ins::Balances;
 use cfg_model::Config;
+use doc_store::Balances;
 use post_model::Made;
 use reg_base::{Cell, Doc, List};
 use rule_lang::Statement;
@@ -39,7 +39,9 @@ pub(crate) fn run_lines<B: Balances>(
     'lines: for cells in doc.lines.as_slice() {
         line += 1;
         let cells = cells.as_slice();
-        made = begin_round(alloc, view, config, doc, statements, true, line, cells, made)?;
+        made = begin_round(
+            alloc, view, config, doc, statements, true, line, cells, made,
+        )?;
     }
     Ok(made)
 }
@@ -66,7 +68,9 @@ pub(crate) fn begin_round<B: Balances>(
 {
     let mut begun = made;
     begun.cost = 0;
-    run_round(alloc, view, config, doc, statements, each, line, cells, begun)
+    run_round(
+        alloc, view, config, doc, statements, each, line, cells, begun,
+    )
 }
 
 // The statements of a round, in the order of the text.

@@ -74,7 +74,11 @@ fn missing(wanted: i64, stock: i128) -> i64
 fn in_stock(holding: &Holding) -> i128
     ensures { result ≡ in_stock_of holding.now }
 {
-    if holding.quantity > 0 { holding.quantity } else { 0 }
+    if holding.quantity > 0 {
+        holding.quantity
+    } else {
+        0
+    }
 }
 
 // How much there is to take from all.
@@ -120,7 +124,11 @@ fn part_of(wanted: i64, stock: i128) -> i64
     ensures least { pos 0 ≤ℤ result }
     ensures most { result ≤ℤ wanted }
 {
-    if stock < i128::from(wanted) { stock as i64 } else { wanted }
+    if stock < i128::from(wanted) {
+        stock as i64
+    } else {
+        wanted
+    }
 }
 
 // What is wanted still.

@@ -8,8 +8,8 @@ ghost use Rattle.post_rules.specs.Tries.{Tries};
 
 use crate::fault::YieldFault;
 use crate::rounds::{begin_round, run_lines};
-use crate::stand_ins::Balances;
 use cfg_model::Config;
+use doc_store::Balances;
 use post_model::{Made, Yield};
 use reg_base::{Doc, List, Memory, Sets};
 use rule_lang::{Rules, Statement};

@@ -1,5 +1,5 @@
 use Rattle.std.proofs.Common.{◌≡◌, drop}
-use Rattle.post_rules.specs.Expenses.{expenses_of}
+use Rattle.post_rules.specs.ActParts.{expenses_of}
 use Rattle.post_rules.specs.SceneViews.{scene_view}
 use Rattle.post_rules.proofs.expenses.expenses_made.Given as goal
 

@@ -10,7 +10,7 @@ returns-clause-small c =
     let above : pos 0 ≤ℤ c.args.wanted = grind (arith, ints) in
     let fits : SFits w64 c.args.wanted = search rules in
     let takes : c.in_ok-taken.field-0 ≡ taken c.args.wanted c.args.holdings.now =
-        c.in_ok-taken.ensures ∙ ap (λ (n : ℤ). taken n c.args.holdings.now)
-        (to_z-of_z w64 c.args.wanted fits) in
+    c.in_ok-taken.ensures ∙ ap (λ (n : ℤ). taken n c.args.holdings.now)
+    (to_z-of_z w64 c.args.wanted fits) in
     subst AreSmallHoldings (sym takes)
     (AreSmall-taken c.args.wanted c.args.holdings.now above c.requires.small)

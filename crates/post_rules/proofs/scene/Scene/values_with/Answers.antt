@@ -9,8 +9,8 @@ use Rattle.post_rules.proofs.scene.Scene.values_with.Goals as goal
 pub dimensions-preserved-in_default : goal.dimensions-preserved-in_default
 dimensions-preserved-in_default c =
     let f : ℕ → Option Value =
-        λ d. option_or (bound_value (scene_view c.args.self.now) c.args.binds.now d)
-        c.args.lot.now in
+    λ d. option_or (bound_value (scene_view c.args.self.now) c.args.binds.now d)
+    c.args.lot.now in
     let none : c.value_or.result ≡ None = search rules in
     c.dimensions.invariant
     ∙ sym (none-more f c.dimensions.dimension (sym c.value_or.ensures ∙ none))
@@ -18,8 +18,8 @@ dimensions-preserved-in_default c =
 pub dimensions-preserved : goal.dimensions-preserved
 dimensions-preserved c =
     let f : ℕ → Option Value =
-        λ d. option_or (bound_value (scene_view c.args.self.now) c.args.binds.now d)
-        c.args.lot.now in
+    λ d. option_or (bound_value (scene_view c.args.self.now) c.args.binds.now d)
+    c.args.lot.now in
     c.in_ok-push.ensures.items
     ∙ ap (λ (xs : List Value). xs ++ c.in-Some.value ∷ []) c.dimensions.invariant
     ∙ sym (some-more f c.dimensions.dimension c.in-Some.value
