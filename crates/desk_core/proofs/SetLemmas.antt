@@ -12,7 +12,7 @@ use Rattle.reg_base.specs.declared.records.Rec.{Rec}
 use Rattle.reg_base.specs.declared.records.SumRow.{SumRow}
 use Rattle.reg_base.specs.declared.records.Document.{Document}
 use Rattle.reg_base.specs.Records.{Booked, is_posted, booked_by}
-use Rattle.desk_plans.specs.ShortLists.{HasShortLists}
+use Rattle.desk_plans.specs.Bounds.{IsWithinBounds}
 use Rattle.desk_core.specs.Rows.{booked, AddsUp}
 
 module _ (p : Booked → Bool) (f : Rec → Booked) (set : List Rec) where
@@ -67,7 +67,7 @@ sets-short [] i h = omega arith
 sets-short (s ∷ ss) zero h = h 0 s (omega arith)
 sets-short (s ∷ ss) (suc i) h = sets-short ss i (λ k d l. h (suc k) d (omega arith))
 
-booked-short : (register : ℕ) (d : Document) → HasShortLists d →
+booked-short : (register : ℕ) (d : Document) → IsWithinBounds d →
     length (booked_by register d) ≤ 5_000
 booked-short register d h = at (is_posted d.doc.state && d.doc.active)
   where
@@ -81,7 +81,7 @@ booked-short register d h = at (is_posted d.doc.state && d.doc.active)
     )
     at false = omega arith
 
-flat-short : (register : ℕ) (ds : List Document) → All HasShortLists ds →
+flat-short : (register : ℕ) (ds : List Document) → All IsWithinBounds ds →
     length (flat_map (booked_by register) ds) ≤ 5_000 * length ds
 flat-short register [] h = omega arith
 flat-short register (d ∷ ds) h =
@@ -106,7 +106,7 @@ documents-more p f ds i d h =
 
 -- documents have few records
 pub documents-few : (p : Booked → Bool) (register : ℕ) (ds : List Document) (i : ℕ) →
-    All HasShortLists ds → length ds < 2 ^ 32 →
+    All IsWithinBounds ds → length ds < 2 ^ 32 →
     length (filter p (flat_map (booked_by register) (take i ds))) < 2 ^ 45
 documents-few p register ds i h few =
     omega (
@@ -115,6 +115,6 @@ documents-few p register ds i h few =
       count_by-le-length p
           (flat_map (booked_by register) (take i ds)),
       flat-short register (take i ds)
-          (All-take HasShortLists i ds h),
+          (All-take IsWithinBounds i ds h),
       length-take i ds,
     )

@@ -15,7 +15,7 @@ ghost use Rattle.desk_model.specs.Serial.{plan_effect};
 ghost use Rattle.desk_model.specs.declared.plan.Source.TheVariants.{Removed};
 ghost use Rattle.desk_model.specs.Limits.{records_before, record_count as record_count_of};
 ghost use Rattle.desk_model.specs.Desk.{effect_at, tests_of};
-ghost use Rattle.desk_plans.specs.ShortLists.{HasShortLists};
+ghost use Rattle.desk_plans.specs.Bounds.{IsWithinBounds};
 ghost use Rattle.desk_core.specs.Outcomes.{Comes, IsPut, deed_at, made_effect, planned_effect};
 ghost use Rattle.desk_plans.specs.Sights.{sight_view, Suits};
 ghost use Rattle.desk_core.specs.SeenStates.{sight_at, drawn_for, IsSightOf};
@@ -215,7 +215,7 @@ impl Desk {
     // What a document comes to that a plan made: it is put, where no limit is passed.
     fn put_outcome(&self, sight: &Sight<'_>, lines: usize, document: Document) -> Outcome
         requires seen { IsSightOf self.now.desk.serial (sight_view sight.now) }
-        requires short { HasShortLists document }
+        requires short { IsWithinBounds document }
         ensures { (plan : PlanOf) → length plan.doc.lines ≡ lines → plan.doc ≡ document.doc
             → Suits (sight_view sight.now) plan → IsPut plan.source
             → Comes self.now.desk (or_stop (made_effect self.now.desk (sight_view sight.now) plan
@@ -257,8 +257,8 @@ impl Desk {
 
 // By how many records a document grows beyond the one before.
 fn growth(before: Option<&Document>, document: &Document) -> u32
-    requires before { ForSome (option_copied before) HasShortLists }
-    requires document { HasShortLists document.now }
+    requires before { ForSome (option_copied before) IsWithinBounds }
+    requires document { IsWithinBounds document.now }
     ensures value { result
         ≡ record_count_of document.now - records_before (option_copied before.entry) }
     ensures few { result ≤ 200_000 }

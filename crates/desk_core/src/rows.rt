@@ -7,7 +7,7 @@ ghost use Rattle.reg_base.specs.Cuts.{inside};
 ghost use Rattle.reg_base.specs.Records.{booked_by, point_of, records_within};
 ghost use Rattle.reg_base.specs.Records.{amount_at as amount_of};
 ghost use Rattle.reg_base.specs.Balances.{sum_rows, is_shown};
-ghost use Rattle.desk_plans.specs.ShortLists.{HasShortLists};
+ghost use Rattle.desk_plans.specs.Bounds.{IsWithinBounds};
 ghost use Rattle.desk_core.specs.Rows.{booked, rows_of, sums_at, sum_at, IsInReach, Adds, AreOfFew};
 
 use doc_store::Documents;
@@ -25,7 +25,7 @@ pub(crate) fn balance_rows(
     cut: Cut,
 ) -> Result<List<SumRow>, Memory>
     requires few { length documents < 2 ^ 32 }
-    requires short { All HasShortLists documents }
+    requires short { All IsWithinBounds documents }
     ensures { IfOk result (λ rows. rows ≡ sum_rows resources None
         (filter (λ b. inside cut (point_of b)) (flat_map (booked_by register) documents.entry))) }
 {
@@ -46,7 +46,7 @@ fn add_document(
     cut: &Cut,
 ) -> Result<(), Memory>
     requires few { AreOfFew (2 ^ 45) resources (rows_of sums.old.entries) }
-    requires short { HasShortLists document.now }
+    requires short { IsWithinBounds document.now }
     ensures { IfOk result (λ _. Adds resources
         (records_within cut.now (booked_by register document.now))
         sums.old.entries sums.new.entries) }

@@ -4,7 +4,7 @@ use Rattle.std.proofs.lemmas.Iterator.Consumers.{YieldsList-from_first, YieldsLi
 use Rattle.std.proofs.lemmas.Iterator.Consumers.{YieldsList-end}
 use Rattle.reg_base.specs.declared.records.SumRow.{SumRow}
 use Rattle.reg_base.specs.Balances.{sum_rows}
-use Rattle.desk_plans.specs.ShortLists.{HasShortLists}
+use Rattle.desk_plans.specs.Bounds.{IsWithinBounds}
 use Rattle.desk_core.specs.Rows.{rows_of, AddsUp}
 use Rattle.std.specs.List.{filter, flat_map}
 use Rattle.reg_base.specs.Cuts.{inside}
@@ -29,7 +29,7 @@ add_document-requires-clause-short c =
     c.into_iter-document-iterator.ensures.into_iter_gives)
     c.loop-document.yielded _ c.loop-document.yielded_by _ _ c.in-Some.document c.in-Some.is
     c.next.ensures.steps in
-    subst HasShortLists (sym turn.1)
+    subst IsWithinBounds (sym turn.1)
     (c.requires.short (length c.loop-document.yielded) c.in-Some.document.now turn.0)
 
 pub loop-document-preserved : goal.loop-document-preserved
