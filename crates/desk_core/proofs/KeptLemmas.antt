@@ -11,7 +11,7 @@ use Rattle.desk_model.specs.Limits.{record_count, records_in, records_before}
 use Rattle.desk_model.specs.State.{Desk}
 use Rattle.desk_core.specs.DeskViews.{Fits}
 use Rattle.desk_core.specs.Invariants.{AreKept, IsKept}
-use Rattle.desk_plans.specs.ShortLists.{HasShortLists}
+use Rattle.desk_plans.specs.Bounds.{IsWithinBounds}
 use Rattle.desk_core.proofs.DocumentLists.{All-at, All-with, All-without, records-without}
 use Rattle.desk_core.proofs.DocumentLists.{records-with, length-without}
 
@@ -19,8 +19,8 @@ use Rattle.desk_core.proofs.DocumentLists.{records-with, length-without}
 
 module _ (documents : List Document) (top records n : ℕ)
     (are_kept : AreKept documents top records) where
-  pub short-found : (d : Document) → Some d ≡ document_at n documents → HasShortLists d
-  short-found d found = All-at HasShortLists n documents d are_kept.short (sym found)
+  pub short-found : (d : Document) → Some d ≡ document_at n documents → IsWithinBounds d
+  short-found d found = All-at IsWithinBounds n documents d are_kept.short (sym found)
 
   -- the count without the document that was found
   counted-found : (d : Document) → Some d ≡ document_at n documents →
@@ -89,7 +89,7 @@ pub AreKept-without : (documents : List Document) (top records n left : ℕ) →
     AreKept (without_document n documents) top left
 AreKept-without documents top records n left are_kept counted = record {
   numbered = All-without n (λ d. d.doc.number ≤ top) documents are_kept.numbered;
-  short = All-without n HasShortLists documents are_kept.short;
+  short = All-without n IsWithinBounds documents are_kept.short;
   few = let few = length-without n documents in omega (arith, few, are_kept.few);
   counted = counted;
   within =
@@ -105,7 +105,7 @@ pub AreKept-with : (desk : Desk) (document : Document) (top records raised toget
 AreKept-with desk document top records raised together are_kept fits above own counted = record {
   numbered = All-with document (λ d. d.doc.number ≤ raised) desk.serial.documents own
       (λ k d below. let low = are_kept.numbered k d below in omega (arith, low, above));
-  short = All-with document HasShortLists desk.serial.documents fits.short are_kept.short;
+  short = All-with document IsWithinBounds desk.serial.documents fits.short are_kept.short;
   few = fits.few;
   counted = counted;
   within = omega (arith, counted, fits.within);

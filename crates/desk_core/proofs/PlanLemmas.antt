@@ -31,7 +31,7 @@ use Rattle.desk_core.specs.declared.outcome.Change.TheVariants.{Put, Remove}
 use Rattle.desk_words.specs.declared.reply.Reply.TheVariants.{Refused}
 use Rattle.desk_core.specs.declared.outcome.Outcome.TheVariants.{Replies, Changes}
 use Rattle.desk_core.specs.Invariants.{AreKept}
-use Rattle.desk_plans.specs.ShortLists.{HasShortLists}
+use Rattle.desk_plans.specs.Bounds.{IsWithinBounds}
 use Rattle.desk_core.specs.DeskViews.{Fits}
 use Rattle.desk_core.specs.Outcomes.{Comes, IsPut, Leaves, made_effect}
 use Rattle.desk_plans.specs.Sights.{Suits, RemovesOne}
@@ -63,8 +63,8 @@ seen-there state sight seen b is = at seen.doc seen.same
 -- the document that is seen has short lists, as all have
 pub seen-short : (state : State) (sight : Sight) (top records : ℕ) →
     AreKept state.documents top records → IsSightOf state sight → (b : Document) →
-    sight.before ≡ Some b → HasShortLists b
-seen-short state sight top records kept seen b is = All-at HasShortLists b.doc.number
+    sight.before ≡ Some b → IsWithinBounds b
+seen-short state sight top records kept seen b is = All-at IsWithinBounds b.doc.number
     state.documents b kept.short (seen-there state sight seen b is).at_number
 
 -- ---- limits that are not passed
@@ -151,7 +151,7 @@ module _ (desk : Desk) (sight : Sight) (plan : Plan) (document : Document)
       (records-with document desk.serial.documents) in
       omega (arith, h, count)
 
-  fits : HasShortLists document → PassesNone desk.serial sight document → Fits desk document
+  fits : IsWithinBounds document → PassesNone desk.serial sight document → Fits desk document
   fits short none = record {
     short = short;
     few = few sight.before refl none.documents;
@@ -183,7 +183,7 @@ module _ (desk : Desk) (sight : Sight) (plan : Plan) (document : Document)
       omega (arith, low, same, there.undrawn)
 
   put-leaves : (records : ℕ) → AreKept desk.serial.documents desk.serial.top records →
-      HasShortLists document → IsPut plan.source → PassesNone desk.serial sight document →
+      IsWithinBounds document → IsPut plan.source → PassesNone desk.serial sight document →
       Leaves desk (effect_with desk.serial sight.drawn plan
       (record { before = sight.before; after = Some document })) (Put document)
       (Stands document.doc.active document.doc.number document.doc.state)
@@ -206,7 +206,7 @@ module _ (desk : Desk) (sight : Sight) (plan : Plan) (document : Document)
       work_effect desk.setting desk.serial sight.drawn sight plan (Some document)) passed
 
   pub put-comes : (records : ℕ) → AreKept desk.serial.documents desk.serial.top records →
-      HasShortLists document → IsPut plan.source →
+      IsWithinBounds document → IsPut plan.source →
       limits_of desk.serial sight plan (Ok (Some document)) ≡ Ok tt →
       control_fault desk.setting plan (with_document document desk.serial.documents) sight.before
       (Some document) ≡ None →

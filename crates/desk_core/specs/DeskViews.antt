@@ -14,7 +14,7 @@ use Rattle.desk_model.specs.Desk.{meaning_at, step}
 use Rattle.desk_core.specs.declared.outcome.Change.{Change}
 use Rattle.desk_core.specs.declared.outcome.Change.TheVariants.{Put, Remove, Close}
 use Rattle.desk_core.specs.declared.outcome.Entry.{Entry}
-use Rattle.desk_plans.specs.ShortLists.{HasShortLists}
+use Rattle.desk_plans.specs.Bounds.{IsWithinBounds}
 
 -- the desk of the machine, and for how many further last requests there is room
 pub record DeskView : Type 0 where
@@ -56,7 +56,7 @@ desk_with desk request (Some entry) = with_request (changed desk entry.change)
 
 -- a document that may be put: its lists are short, and no limit is passed with it
 pub record Fits (desk : Desk) (document : Document) : Type 0 where
-  pub short : HasShortLists document
+  pub short : IsWithinBounds document
   pub few : length (with_document document desk.serial.documents) ≤ most_documents
   pub within : records_in (with_document document desk.serial.documents) ≤ most_kept_records
 

@@ -5,14 +5,14 @@ use Rattle.cfg_model.specs.declared.config.Config.{Config}
 use Rattle.cfg_model.specs.Limits.{IsWithinLimits}
 use Rattle.rule_lang.specs.declared.rules.Rules.{Rules}
 use Rattle.doc_store.specs.Stores.{Stored}
-use Rattle.desk_plans.specs.ShortLists.{HasShortLists}
+use Rattle.desk_plans.specs.Bounds.{IsWithinBounds}
 use Rattle.desk_model.specs.Limits.{records_in, most_documents, most_kept_records}
 
 -- documents have numbers up to the greatest one that was drawn, their records are counted, and
 -- neither are more than there may be
 pub record AreKept (documents : List Document) (top records : ℕ) : Type 0 where
   pub numbered : All (λ d. d.doc.number ≤ top) documents
-  pub short : All HasShortLists documents
+  pub short : All IsWithinBounds documents
   pub few : length documents ≤ most_documents
   pub counted : records ≡ records_in documents
   pub within : records ≤ most_kept_records

@@ -4,7 +4,7 @@ ghost use Rattle.reg_base.specs.Documents.{with_document, without_document};
 ghost use Rattle.desk_model.specs.Limits.{records_in};
 ghost use Rattle.desk_core.specs.declared.outcome.Change.TheVariants as ChangeIs;
 ghost use Rattle.desk_core.specs.DeskViews.{Fits, changed};
-ghost use Rattle.desk_plans.specs.ShortLists.{HasShortLists};
+ghost use Rattle.desk_plans.specs.Bounds.{IsWithinBounds};
 
 use crate::desk::Desk;
 use desk_plans::record_count;
@@ -55,7 +55,7 @@ impl Desk {
 
     // How many records there are with a document in the place of its number.
     fn records_with(&self, document: &Document) -> u32
-        requires { HasShortLists document.now }
+        requires { IsWithinBounds document.now }
         ensures { result
             ≡ records_in (with_document document.now self.now.desk.serial.documents) }
     {

@@ -1,5 +1,6 @@
+pub mod BoundLemmas
 pub mod FieldLemmas
+pub mod GivenLemmas
 pub mod PartLemmas
 pub mod ReadingLemmas
-pub mod ShortLemmas
 pub mod ShownLemmas

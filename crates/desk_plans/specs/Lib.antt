@@ -1,5 +1,6 @@
+pub mod Bounds
 pub mod Contents
-pub mod ShortLists
+pub mod DocumentParts
 pub mod ShownSets
 pub mod Sights
 pub mod Tries

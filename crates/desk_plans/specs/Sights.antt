@@ -8,6 +8,7 @@ use Rattle.desk_model.specs.declared.plan.Source.TheVariants.{ByHand, ByRules, K
 use Rattle.desk_model.specs.declared.plan.Source.TheVariants.{Removed}
 use Rattle.desk_model.specs.Plans.{Sight}
 use Rattle.desk_model.specs.States.{number_with}
+use Rattle.desk_plans.specs.Bounds.{GivesNumbers}
 use Rattle.desk_plans.specs.declared.sight.Sight.{Sight as SightOf}
 
 -- what is seen, as the machine's changes see it
@@ -27,7 +28,9 @@ RemovesOne before Kept = ⊤
 RemovesOne before Nothing = ⊤
 RemovesOne before Removed = IsSome before
 
--- a plan has the number of the document that it changes, or the drawn one
+-- a plan has the number of the document that it changes, or the drawn one, and what it gives has
+-- no number past the largest one
 pub record Suits (sight : Sight) (plan : Plan) : Type 0 where
   pub number : plan.doc.number ≡ number_with sight
   pub removes : RemovesOne sight.before plan.source
+  pub numbers : GivesNumbers plan.source

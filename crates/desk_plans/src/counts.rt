@@ -2,13 +2,13 @@
 ghost use Rattle.std.specs.Prelude.{◌≡◌, ◌≤◌, ◌*◌, length};
 ghost use Rattle.std.specs.List.{sum_by};
 ghost use Rattle.desk_model.specs.Limits.{record_count as record_count_of};
-ghost use Rattle.desk_plans.specs.ShortLists.{AreShort, HasShortLists};
+ghost use Rattle.desk_plans.specs.Bounds.{AreShort, IsWithinBounds};
 
 use reg_base::{Document, List};
 
 /// How many records and entries a document has, whether they count or not.
 pub fn record_count(document: &Document) -> u32
-    requires { HasShortLists document.now }
+    requires { IsWithinBounds document.now }
     ensures value { result ≡ record_count_of document.now }
     ensures few { result ≤ 200_000 }
 {

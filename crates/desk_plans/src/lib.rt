@@ -3,11 +3,12 @@
 //! Means: each part makes what its definition in `desk_model` makes, or is refused where that is.
 //! `Tries` in `specs/Tries.antt` says so, and `sight_view` in `specs/Sights.antt` what a plan sees.
 //!
-//! Stands on: `desk_model` for plans and what they make, `cfg_model` for the configuration,
-//! `desk_words` for requests, refusals and shown documents, `reg_base` for documents.
+//! Stands on: `desk_model` for plans and what they make, `post_rules` for what rules make,
+//! `cfg_model` for the configuration, `desk_words` for requests, refusals and shown documents,
+//! `doc_store` for the question of a balance, `reg_base` for documents.
 //!
 //! Promises: a plan and the document that it leaves are those of the machine, or its first
-//! refusal; a document that is made has no more sets, records and entries than there may be.
+//! refusal; a document that is made is within bounds: its sets, how long they are, their numbers.
 //!
 //! Leaves open: how documents are kept, who asks, and when memory is wanted.
 #![tactic(auto)]
@@ -23,6 +24,7 @@ mod manual;
 mod part;
 mod plans;
 mod posts;
+mod scales;
 mod shown;
 mod sides;
 mod sight;

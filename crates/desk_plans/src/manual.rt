@@ -1,5 +1,5 @@
 //! What `manual` makes of the records that it gives, read for registers and ledgers.
-ghost use Rattle.std.specs.Prelude.{◌≡◌, length, IfOk};
+ghost use Rattle.std.specs.Prelude.{◌≡◌, length, All, IfOk};
 ghost use Rattle.std.specs.List.{list_any};
 ghost use Rattle.reg_base.specs.Results.{each};
 ghost use Rattle.desk_model.specs.Manuals.{space_of as space_of_set, given_set as given_of_set};
@@ -9,6 +9,7 @@ ghost use Rattle.desk_model.specs.Manuals.{are_distinct as are_distinct_spaces};
 ghost use Rattle.desk_model.specs.Manuals.{manual_doc as manual_doc_of};
 ghost use Rattle.desk_model.specs.Manuals.{plan_manual as plan_of_manual};
 ghost use Rattle.desk_model.specs.declared.plan.Space.TheVariants as SpaceIs;
+ghost use Rattle.desk_plans.specs.Bounds.{GivesNumbersIn};
 ghost use Rattle.desk_plans.specs.Sights.{sight_view, Suits};
 ghost use Rattle.desk_plans.specs.Tries.{Tries};
 
@@ -22,7 +23,7 @@ use crate::tried::Tried;
 use cfg_model::Config;
 use desk_model::{GivenSet, Plan, Source, Space};
 use desk_words::{Field, Manual, RecordText, SetText};
-use reg_base::{Doc, DocState, List, Memory};
+use reg_base::{Doc, DocState, List, Memory, what_is_read_is_in_range};
 use std::alloc::Global;
 
 /// What `manual` makes of the records that it gives, or the first of its refusals.
@@ -69,8 +70,10 @@ fn manual_doc(alloc: Global, manual: &Manual, sight: &Sight<'_>) -> Result<Doc, 
 // The records and entries that the sets give, or the first refusal.
 #[tactic(auto, unfolding(desk_model::specs::Manuals::given_sets))]
 pub(crate) fn given_sets(alloc: Global, config: &Config, sets: &[SetText]) -> Tried<List<GivenSet>>
-    ensures { Tries result (given_of_sets config.now sets.now) }
+    ensures value { Tries result (given_of_sets config.now sets.now) }
+    ensures numbers { IfOk result (All GivesNumbersIn) }
 {
+    what_is_read_is_in_range();
     let spaces = spaces_of(alloc, config, sets)?;
     let given = sets_in(alloc, config, spaces.as_slice(), sets)?;
     if !are_distinct(spaces.as_slice()) {

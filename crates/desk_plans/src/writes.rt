@@ -7,6 +7,7 @@ ghost use Rattle.desk_model.specs.Writes.{content_doc as content_doc_of};
 ghost use Rattle.desk_model.specs.Writes.{plan_content as plan_of_content};
 ghost use Rattle.desk_model.specs.Writes.{kind_of_request as place_of_kind};
 ghost use Rattle.desk_model.specs.Writes.{keeps_kind as keeps_kind_of, is_kind as is_kind_of};
+ghost use Rattle.desk_plans.specs.Bounds.{GivesNumbers};
 ghost use Rattle.desk_plans.specs.Contents.{content_view};
 ghost use Rattle.desk_plans.specs.Sights.{sight_view, RemovesOne, Suits};
 ghost use Rattle.desk_plans.specs.Tries.{Tries, TriesAs};
@@ -115,6 +116,7 @@ pub(crate) fn plan_content(
 ) -> Tried<Plan>
     requires kinds { length config.now.kinds ≤ 64 }
     requires stays { RemovesOne (sight_view sight.now).before source }
+    requires given { GivesNumbers source }
     ensures value { Tries result
         (plan_of_content state source config.now write.now (sight_view sight.now)) }
     ensures suits { IfOk result (Suits (sight_view sight.now)) }

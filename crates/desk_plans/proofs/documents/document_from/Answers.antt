@@ -1,26 +1,45 @@
+use Rattle.std.proofs.Common.{Ok, subst}
 use Rattle.std.specs.Option.{option_copied, ForSome}
-use Rattle.desk_model.specs.declared.plan.Source.TheVariants.{ByHand, Kept, Nothing}
-use Rattle.desk_plans.specs.ShortLists.{HasShortLists}
-use Rattle.desk_plans.proofs.ShortLemmas.{IfOk-Tries, document_from-short}
+use Rattle.post_model.specs.Yields.{yield_of}
+use Rattle.desk_model.specs.RecordSets.{given_by_hand, no_sets}
+use Rattle.desk_model.specs.DocumentSets.{sets_before, with_yield}
+use Rattle.desk_plans.specs.Bounds.{IsWithinBounds}
+use Rattle.desk_plans.specs.DocumentParts.{with_sets}
+use Rattle.desk_plans.specs.Tries.{Tries}
+use Rattle.desk_plans.proofs.BoundLemmas.{IfOk-Tries, by_hand-bounds, with_yield-bounds}
+use Rattle.desk_plans.proofs.BoundLemmas.{kept-bounds, none-bounds}
 use Rattle.desk_plans.proofs.documents.document_from.Goals as goal
 
-pub returns-in-ByHand-clause-short : goal.returns-in-ByHand-clause-short
-returns-in-ByHand-clause-short c =
-    IfOk-Tries (λ made. ForSome made HasShortLists) c.document_by_hand.result _
+pub returns-in-ByHand-clause-bounds : goal.returns-in-ByHand-clause-bounds
+returns-in-ByHand-clause-bounds g c =
+    IfOk-Tries (λ made. ForSome made IsWithinBounds) c.document_by_hand.result _
     c.document_by_hand.ensures
-    (document_from-short c.args.config.now (option_copied c.args.before) c.args.plan.doc
-    (ByHand c.in-ByHand.given) c.requires.registers c.requires.ledgers c.requires.before)
+    (by_hand-bounds c.args.config.now c.args.plan.doc c.in-ByHand.given c.requires.limits
+    c.requires.given)
 
-pub returns-in-Kept-clause-short : goal.returns-in-Kept-clause-short
-returns-in-Kept-clause-short c =
-    IfOk-Tries (λ made. ForSome made HasShortLists) c.document_kept.result _
+pub returns-in-ByRules-clause-value : goal.returns-in-ByRules-clause-value
+returns-in-ByRules-clause-value g c = λ documents same.
+    subst (λ books. Tries c.document_by_rules.result (with_yield (record {
+      config = c.args.config.now;
+      rules = c.args.rules.now;
+    }) c.args.plan.doc (yield_of c.args.config.now c.args.rules.now c.args.plan.doc books))) same
+    c.document_by_rules.ensures.value
+
+pub returns-in-ByRules-clause-bounds : goal.returns-in-ByRules-clause-bounds
+returns-in-ByRules-clause-bounds g c =
+    IfOk-Tries (λ made. ForSome made IsWithinBounds) c.document_by_rules.result _
+    c.document_by_rules.ensures.value
+    (with_yield-bounds _ c.args.plan.doc _ c.requires.limits c.document_by_rules.ensures.within)
+
+pub returns-in-Kept-clause-bounds : goal.returns-in-Kept-clause-bounds
+returns-in-Kept-clause-bounds g c =
+    IfOk-Tries (λ made. ForSome made IsWithinBounds) c.document_kept.result _
     c.document_kept.ensures
-    (document_from-short c.args.config.now (option_copied c.args.before) c.args.plan.doc Kept
-    c.requires.registers c.requires.ledgers c.requires.before)
+    (kept-bounds c.args.config.now (option_copied c.args.before) c.args.plan.doc
+    c.requires.limits c.requires.before)
 
-pub returns-in-Nothing-clause-short : goal.returns-in-Nothing-clause-short
-returns-in-Nothing-clause-short c =
-    IfOk-Tries (λ made. ForSome made HasShortLists) c.document_without_records.result _
+pub returns-in-Nothing-clause-bounds : goal.returns-in-Nothing-clause-bounds
+returns-in-Nothing-clause-bounds g c =
+    IfOk-Tries (λ made. ForSome made IsWithinBounds) c.document_without_records.result _
     c.document_without_records.ensures
-    (document_from-short c.args.config.now (option_copied c.args.before) c.args.plan.doc Nothing
-    c.requires.registers c.requires.ledgers c.requires.before)
+    (none-bounds c.args.config.now c.args.plan.doc c.requires.limits)
