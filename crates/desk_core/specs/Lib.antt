@@ -1,3 +1,4 @@
+pub mod Controls
 pub mod DeskViews
 pub mod Invariants
 pub mod Lines

@@ -15,6 +15,7 @@
 
 mod changes;
 mod clerks;
+mod controls;
 mod deeds;
 mod desk;
 mod limits;
