@@ -19,7 +19,7 @@ use Rattle.reg_base.specs.Records.{without_recorder}
 use Rattle.reg_base.specs.Balances.{sum_rows, balance_of}
 use Rattle.row_sums.proofs.ForAbove.{balance_of-others}
 use Rattle.row_sums.specs.Sums.{booked}
-use Rattle.desk_plans.specs.ShortLists.{HasShortLists}
+use Rattle.desk_plans.specs.Bounds.{IsWithinBounds}
 use Rattle.desk_core.specs.declared.rows.Query.{Query}
 use Rattle.desk_core.specs.Rows.{is_other, counts, counted}
 
@@ -133,7 +133,7 @@ sets-short [] i h = omega arith
 sets-short (s ∷ ss) zero h = h 0 s (omega arith)
 sets-short (s ∷ ss) (suc i) h = sets-short ss i (λ k d l. h (suc k) d (omega arith))
 
-booked-short : (register : ℕ) (d : Document) → HasShortLists d
+booked-short : (register : ℕ) (d : Document) → IsWithinBounds d
     → length (booked_by register d) ≤ 5_000
 booked-short register d h = at (is_posted d.doc.state && d.doc.active)
   where
@@ -146,7 +146,7 @@ booked-short register d h = at (is_posted d.doc.state && d.doc.active)
     )
     at false = omega arith
 
-flat-short : (register : ℕ) (ds : List Document) → All HasShortLists ds
+flat-short : (register : ℕ) (ds : List Document) → All IsWithinBounds ds
     → length (flat_map (booked_by register) ds) ≤ 5_000 * length ds
 flat-short register [] h = omega arith
 flat-short register (d ∷ ds) h = omega (
@@ -158,11 +158,11 @@ flat-short register (d ∷ ds) h = omega (
 
 -- documents have few records
 pub documents-few : (q : Query) (register : ℕ) (ds : List Document) (i : ℕ)
-    → All HasShortLists ds → length ds < 2 ^ 32
+    → All IsWithinBounds ds → length ds < 2 ^ 32
     → length (counted q (flat_map (booked_by register) (take i ds))) ≤ 2 ^ 45
 documents-few q register ds i h few = omega (
   arith,
   counted-short q (flat_map (booked_by register) (take i ds)),
-  flat-short register (take i ds) (All-take HasShortLists i ds h),
+  flat-short register (take i ds) (All-take IsWithinBounds i ds h),
   length-take i ds,
 )

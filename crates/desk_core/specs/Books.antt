@@ -2,7 +2,7 @@
 use Rattle.std.specs.Prelude.{ℕ, ◌<◌, ◌^◌, List, All, length, slice_get, unwrap_or, option_map}
 use Rattle.reg_base.specs.declared.records.Document.{Document}
 use Rattle.cfg_model.specs.declared.config.Config.{Config}
-use Rattle.desk_plans.specs.ShortLists.{HasShortLists}
+use Rattle.desk_plans.specs.Bounds.{IsWithinBounds}
 
 -- a configuration with the documents that stand under it
 pub record BooksView : Type 0 where
@@ -12,7 +12,7 @@ pub record BooksView : Type 0 where
 -- documents whose records can be summed: they are few, and their lists are short
 pub record AreSummed (documents : List Document) : Type 0 where
   pub few : length documents < 2 ^ 32
-  pub short : All HasShortLists documents
+  pub short : All IsWithinBounds documents
 
 -- how many resources a register has, where there is one
 abbrev pub resources_at : Config → ℕ → ℕ

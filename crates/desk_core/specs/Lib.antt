@@ -1,4 +1,5 @@
 pub mod Books
+pub mod Controls
 pub mod DeskViews
 pub mod Invariants
 pub mod Lines

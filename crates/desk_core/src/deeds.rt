@@ -17,7 +17,7 @@ ghost use Rattle.desk_model.specs.Serial.{plan_effect};
 ghost use Rattle.desk_model.specs.declared.plan.Source.TheVariants.{Removed};
 ghost use Rattle.desk_model.specs.Limits.{records_before, record_count as record_count_of};
 ghost use Rattle.desk_model.specs.Desk.{effect_at, tests_of};
-ghost use Rattle.desk_plans.specs.ShortLists.{HasShortLists};
+ghost use Rattle.desk_plans.specs.Bounds.{IsWithinBounds};
 ghost use Rattle.desk_core.specs.Outcomes.{Comes, IsPut, deed_at, made_effect, planned_effect};
 ghost use Rattle.desk_plans.specs.Sights.{sight_view, Suits};
 ghost use Rattle.desk_core.specs.SeenStates.{sight_at, drawn_for, IsSightOf};
@@ -286,7 +286,7 @@ impl Desk {
         document: Document,
     ) -> Result<Outcome, Memory>
         requires seen { IsSightOf self.now.desk.serial (sight_view sight.now) }
-        requires bounds { HasShortLists document }
+        requires bounds { IsWithinBounds document }
         ensures { (plan : PlanOf) → length plan.doc.lines ≡ lines → plan.doc ≡ document.doc
             → Suits (sight_view sight.now) plan → IsPut plan.source
             → controls.now ≡ controls_of_it self.now.desk.setting plan
@@ -333,8 +333,8 @@ impl Desk {
 
 // By how many records a document grows beyond the one before.
 fn growth(before: Option<&Document>, document: &Document) -> u32
-    requires before { ForSome (option_copied before) HasShortLists }
-    requires document { HasShortLists document.now }
+    requires before { ForSome (option_copied before) IsWithinBounds }
+    requires document { IsWithinBounds document.now }
     ensures value { result
         ≡ record_count_of document.now - records_before (option_copied before.entry) }
     ensures few { result ≤ 200_000 }

@@ -5,7 +5,7 @@ ghost use Rattle.std.specs.Option.{option_copied};
 ghost use Rattle.reg_base.specs.Records.{booked_by, records_within};
 ghost use Rattle.reg_base.specs.Balances.{sum_rows};
 ghost use Rattle.row_sums.specs.Sums.{booked, AreInReach};
-ghost use Rattle.desk_plans.specs.ShortLists.{HasShortLists};
+ghost use Rattle.desk_plans.specs.Bounds.{IsWithinBounds};
 ghost use Rattle.desk_core.specs.Rows.{counts, counted, is_other as is_other_than, AddsFor};
 
 use doc_store::Documents;
@@ -66,7 +66,7 @@ pub(crate) fn all_rows(
     cut: &Cut,
 ) -> Result<List<SumRow>, Memory>
     requires few { length documents < 2 ^ 32 }
-    requires short { All HasShortLists documents }
+    requires short { All IsWithinBounds documents }
     ensures { IfOk result (λ rows. rows ≡ sum_rows resources None
         (records_within cut.now (flat_map (booked_by register) documents.entry))) }
 {
@@ -84,7 +84,7 @@ pub(crate) fn balance_rows(
     query: &Query<'_>,
 ) -> Result<List<SumRow>, Memory>
     requires few { length documents < 2 ^ 32 }
-    requires short { All HasShortLists documents }
+    requires short { All IsWithinBounds documents }
     ensures { IfOk result (λ rows. rows ≡ sum_rows query.now.resources
         (option_copied query.now.by)
         (counted query.now (flat_map (booked_by query.now.register) documents.entry))) }
@@ -99,7 +99,7 @@ pub(crate) fn balance_rows(
 
 // The records of a document in a register, where they count.
 fn counted_set(document: &Document, register: usize) -> &[Rec]
-    requires { HasShortLists document.now }
+    requires { IsWithinBounds document.now }
     ensures value { map (booked document.now.doc.number) result.now
         ≡ booked_by register document.now }
     ensures short { length result.now ≤ 5_000 }

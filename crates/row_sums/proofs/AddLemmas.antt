@@ -164,7 +164,8 @@ module _ (by : Option (List ℕ)) where
     -- ---- one record more
 
     module _ (bs : List Booked) (old : List SumRow) (h : AddsUp by resources bs old) where
-      sum_at-old : (k : List Value) (j : ℕ) → j < resources
+      -- the sum of a group's row, and 0 where there is none
+      pub sum_at-old : (k : List Value) (j : ℕ) → j < resources
           → sum_at (sums_at k old) j ≡ total by k bs j
       sum_at-old k j l =
           ap (λ rows. sum_at (sums_at k rows) j) h.same

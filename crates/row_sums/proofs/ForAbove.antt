@@ -1,12 +1,14 @@
 -- For the crates above: the lemmas of this crate that their proofs may cite.
-use Rattle.std.proofs.Common.{◌≡◌, ℕ, ◌*◌, ◌≤◌, Option, List, [], ◌++◌, length}
+use Rattle.std.proofs.Common.{◌≡◌, ℕ, ◌*◌, ◌<◌, ◌≤◌, Option, List, [], ◌++◌, length}
 use Rattle.std.specs.List.{flat_map}
+use Rattle.reg_base.specs.declared.value.Value.{Value}
 use Rattle.reg_base.specs.declared.records.Document.{Document}
 use Rattle.reg_base.specs.declared.records.Filter.{Filter}
 use Rattle.reg_base.specs.declared.records.SumRow.{SumRow}
 use Rattle.reg_base.specs.declared.cut.Cut.{Cut}
-use Rattle.reg_base.specs.Records.{Booked, booked_by, records_of, without_recorder}
-use Rattle.reg_base.specs.Balances.{sum_rows, balance_of}
+use Rattle.reg_base.specs.Records.{Booked, booked_by, booked_cmp, in_order, records_of}
+use Rattle.reg_base.specs.Records.{without_recorder}
+use Rattle.reg_base.specs.Balances.{total, sum_rows, balance_of}
 use Rattle.row_sums.specs.Sums.{AddsUp, AreWithin, AreInReach, AreAmounts, Adds}
 use Rattle.row_sums.proofs.AddLemmas as one
 use Rattle.row_sums.proofs.AddsLemmas as many
@@ -40,6 +42,17 @@ reach-more = sizes.reach-more
 pub within-sum_rows : (bound n : ℕ) (by : Option (List ℕ)) (bs : List Booked)
     → AreAmounts bound bs → AreWithin (bound * length bs) (sum_rows n by bs)
 within-sum_rows = sizes.within-sum_rows
+
+-- rows that add up records add up others with the same sums in each group
+pub AddsUp-same : (by : Option (List ℕ)) (n : ℕ) (xs ys : List Booked)
+    → ((g : List Value) (j : ℕ) → j < n → total by g xs j ≡ total by g ys j)
+    → (rows : List SumRow) → AddsUp by n xs rows → AddsUp by n ys rows
+AddsUp-same = orders.AddsUp-same
+
+-- the sum of a group over records in order
+pub total-in_order : (by : Option (List ℕ)) (g : List Value) (j : ℕ) (bs : List Booked)
+    → total by g (in_order booked_cmp bs) j ≡ total by g bs j
+total-in_order = orders.total-in_order
 
 -- a balance without one document, over the records as the documents hold them
 pub balance_of-others : (asked : Filter) (by : Option (List ℕ)) (cut : Cut) (skip n register : ℕ)

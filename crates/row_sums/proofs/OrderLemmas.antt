@@ -9,15 +9,29 @@ use Rattle.std.proofs.lemmas.Int.{ints}
 use Rattle.reg_base.specs.declared.value.Value.{Value}
 use Rattle.reg_base.specs.declared.records.Document.{Document}
 use Rattle.reg_base.specs.declared.records.Filter.{Filter}
+use Rattle.reg_base.specs.declared.records.SumRow.{SumRow}
 use Rattle.reg_base.specs.declared.cut.Cut.{Cut}
 use Rattle.reg_base.specs.Cuts.{inside}
 use Rattle.reg_base.specs.Records.{Booked, put, in_order, point_of, booked_by, booked_cmp}
 use Rattle.reg_base.specs.Records.{records_of, matches, chosen_records, records_within}
 use Rattle.reg_base.specs.Records.{without_recorder}
 use Rattle.reg_base.specs.Balances.{contribution, total, sum_rows, balance_of}
-use Rattle.row_sums.specs.Sums.{groups_in}
+use Rattle.row_sums.specs.Sums.{groups_in, AddsUp}
 use Rattle.row_sums.proofs.RowLemmas.{range-same}
 use Rattle.row_sums.proofs.AddLemmas.{AddsUp-sum_rows, shown-sum_rows}
+
+-- rows that add up records add up others with the same sums in each group
+pub AddsUp-same : (by : Option (List ℕ)) (n : ℕ) (xs ys : List Booked)
+    → ((g : List Value) (j : ℕ) → j < n → total by g xs j ≡ total by g ys j)
+    → (rows : List SumRow) → AddsUp by n xs rows → AddsUp by n ys rows
+AddsUp-same by n xs ys same rows h = record {
+  rising = h.rising;
+  same = h.same ∙ (λ i. map (λ g. record {
+    group = g;
+    sums = range-same (total by g xs) (total by g ys) n 0 n (omega arith) (same g) i;
+  }) (groups_in rows));
+  covered = λ g none j l. sym (same g j l) ∙ h.covered g none j l;
+}
 
 -- records with the same sums in each group have the same rows
 sum_rows-totals : (by : Option (List ℕ)) (n : ℕ) (xs ys : List Booked)
@@ -26,14 +40,7 @@ sum_rows-totals : (by : Option (List ℕ)) (n : ℕ) (xs ys : List Booked)
 sum_rows-totals by n xs ys same =
     let h = AddsUp-sum_rows by n xs (sum_rows n by xs) refl in
     sym (shown-sum_rows by n xs (sum_rows n by xs) h)
-    ∙ shown-sum_rows by n ys (sum_rows n by xs) (record {
-      rising = h.rising;
-      same = h.same ∙ (λ i. map (λ g. record {
-        group = g;
-        sums = range-same (total by g xs) (total by g ys) n 0 n (omega arith) (same g) i;
-      }) (groups_in (sum_rows n by xs)));
-      covered = λ g none j l. sym (same g j l) ∙ h.covered g none j l;
-    })
+    ∙ shown-sum_rows by n ys (sum_rows n by xs) (AddsUp-same by n xs ys same (sum_rows n by xs) h)
 
 -- a sum over records is that over them in order
 module _ (value : List Booked → ℤ) (part : Booked → ℤ)
@@ -110,3 +117,9 @@ module _ (asked : Filter) (by : Option (List ℕ)) (cut : Cut) (skip : ℕ) wher
       (counted (flat_map (booked_by register) documents))
       (λ g j l. value-in_order (λ bs. total by g (counted bs) j) (part_of g j) (total-more g j)
       booked_cmp (flat_map (booked_by register) documents))
+
+-- the sum of a group over records in order
+pub total-in_order : (by : Option (List ℕ)) (g : List Value) (j : ℕ) (bs : List Booked)
+    → total by g (in_order booked_cmp bs) j ≡ total by g bs j
+total-in_order by g j bs =
+    value-in_order (λ xs. total by g xs j) (contribution by g j) (λ b xs. refl) booked_cmp bs

@@ -42,8 +42,8 @@ fn raised_sum(sums: &[i128], rec: &Rec, resource: usize) -> i128
     amount_at(rec, resource) + sum_in(sums, resource)
 }
 
-// The sum at a resource, and 0 where there is none.
-fn sum_in(sums: &[i128], resource: usize) -> i128
+/// The sum at a resource, and 0 where there is none.
+pub(crate) fn sum_in(sums: &[i128], resource: usize) -> i128
     ensures { result ≡ sum_at sums.now resource }
 {
     sums.get(resource).copied().unwrap_or(0)

@@ -2,18 +2,19 @@
 //!
 //! Kept: a map from each group to its sums, which contracts see as rows in order of group. A row of
 //! zeros may be there or not: what starts from the rows of a balance has none at first.
-ghost use Rattle.std.specs.Prelude.{◌≡◌, ℕ, List, [], ◌∷◌, ◌++◌, ◌^◌, pos, not, filter};
+ghost use Rattle.std.specs.Prelude.{◌≡◌, ℕ, List, [], ◌∷◌, ◌++◌, ◌^◌, ◌<◌, pos, not, filter};
 ghost use Rattle.std.specs.Prelude.{Option, Some, IfOk, OnOk};
 ghost use Rattle.std.specs.Option.{option_copied};
 ghost use Rattle.std.specs.List.{list_any};
 ghost use Rattle.std.specs.Ordering.{int_eq};
 ghost use Rattle.reg_base.specs.Records.{Booked};
-ghost use Rattle.reg_base.specs.Balances.{group_values as values_of_group, is_shown, sum_rows};
+ghost use Rattle.reg_base.specs.Balances.{group_values as values_of_group, total};
+ghost use Rattle.reg_base.specs.Balances.{is_shown, sum_rows};
 ghost use Rattle.row_sums.specs.Sums.{booked, groups_in, IsRising, AddsUp, AreInReach, Adds};
 ghost use Rattle.row_sums.specs.Rows.{rows_of, sums_at, with_row};
 
 use crate::groups::group_values;
-use crate::raised::{first_sums, raise};
+use crate::raised::{first_sums, raise, sum_in};
 use reg_base::{List, Memory, Rec, SumRow, Value};
 use std::alloc::Global;
 use std::collections::BTreeMap;
@@ -75,6 +76,15 @@ impl RowSums {
         }
     }
 
+    /// The sum of a group at a resource.
+    pub fn sum_of(&self, group: &[Value], resource: usize) -> i128
+        ensures { (by : Option (List ℕ)) (resources : ℕ) (bs : List Booked)
+            → AddsUp by resources bs self.now → resource < resources
+            → result ≡ total by group.now bs resource }
+    {
+        sum_in(totals_of(&self.sums, group), resource)
+    }
+
     /// The rows that are shown, in order of group.
     pub fn into_shown(self, alloc: Global) -> Result<List<SumRow>, Memory>
         ensures reach { (count : ℕ) → AreInReach count self → IfOk result (AreInReach count) }
@@ -84,6 +94,16 @@ impl RowSums {
     {
         let RowSums { sums } = self;
         shown_rows(alloc, sums)
+    }
+}
+
+// The sums of a group's row, and none where it has none.
+fn totals_of<'a>(sums: &'a BTreeMap<Vec<Value>, Vec<i128>>, group: &[Value]) -> &'a [i128]
+    ensures { result.now ≡ sums_at group.now (rows_of sums.now.entries) }
+{
+    match sums.get(group) {
+        Some(totals) => totals.as_slice(),
+        None => &[],
     }
 }
 

@@ -10,7 +10,7 @@ use Rattle.reg_base.specs.Records.{Booked, booked_by}
 use Rattle.reg_base.specs.Balances.{sum_rows}
 use Rattle.row_sums.specs.Sums.{Adds}
 use Rattle.row_sums.proofs.ForAbove.{AddsUp-nil, Adds-both, reach-more}
-use Rattle.desk_plans.specs.ShortLists.{HasShortLists}
+use Rattle.desk_plans.specs.Bounds.{IsWithinBounds}
 use Rattle.desk_core.specs.Rows.{counted, AddsFor}
 use Rattle.desk_core.proofs.RowLemmas.{documents-few, documents-more}
 use Rattle.desk_core.proofs.rows.balance_rows.Goals as goal
@@ -21,7 +21,7 @@ counted_set-set-requires c =
     c.into_iter-document-iterator.ensures.into_iter_gives)
     c.loop-document.yielded _ c.loop-document.yielded_by _ _ c.in-Some.document c.in-Some.is
     c.next.ensures.steps in
-    subst HasShortLists (sym turn.1)
+    subst IsWithinBounds (sym turn.1)
     (c.requires.short (length c.loop-document.yielded) c.in-Some.document.now turn.0)
 
 pub add_set-requires-clause-reach : goal.add_set-requires-clause-reach
