@@ -6,9 +6,11 @@ pub mod RefusalScales
 pub mod RepeatLemmas
 pub mod RowBooks
 pub mod RuleScales
+pub mod WorkedControls
 pub mod WorkedDocuments
 pub mod WorkedEntries
 pub mod WorkedLimits
+pub mod WorkedPosts
 pub mod WorkedRows
 pub mod ReplayLemmas
 pub mod ScaleLemmas

@@ -5,8 +5,9 @@ use Rattle.reg_base.specs.declared.records.Mark.{Mark}
 use Rattle.reg_base.specs.declared.records.Mark.TheVariants.{Receipt}
 use Rattle.reg_base.specs.declared.records.Side.{Side}
 use Rattle.reg_base.specs.declared.right.Right.{Right}
-use Rattle.reg_base.specs.declared.right.Right.TheVariants.{Write as WriteRight, Post, Read, Lock}
-use Rattle.reg_base.specs.declared.right.Right.TheVariants.{Manual as ManualRight, Admin}
+use Rattle.reg_base.specs.declared.right.Right.TheVariants.{Write as WriteRight, Post as PostRight}
+use Rattle.reg_base.specs.declared.right.Right.TheVariants.{Manual as ManualRight, Read, Lock}
+use Rattle.reg_base.specs.declared.right.Right.TheVariants.{Admin}
 use Rattle.cfg_model.specs.declared.account.Account.{Account}
 use Rattle.cfg_model.specs.declared.account.Nature.{Nature}
 use Rattle.cfg_model.specs.declared.account.Nature.TheVariants.{Active, Passive}
@@ -15,11 +16,28 @@ use Rattle.cfg_model.specs.declared.kind.Kind.{Kind}
 use Rattle.cfg_model.specs.declared.ledger.Chart.{Chart}
 use Rattle.cfg_model.specs.declared.register.Dimension.{Dimension}
 use Rattle.cfg_model.specs.declared.register.Register.{Register}
+use Rattle.rule_text.specs.declared.plain.Verb.TheVariants.{Receipt as MakesReceipt}
+use Rattle.rule_text.specs.declared.plain.Verb.TheVariants.{Expense as MakesExpense}
+use Rattle.rule_text.specs.declared.plain.Verb.TheVariants.{Turn as MakesTurn}
+use Rattle.rule_lang.specs.declared.statement.Act.{Act}
+use Rattle.rule_lang.specs.declared.statement.Act.TheVariants.{Make, WriteOff, Entry, Control}
+use Rattle.rule_lang.specs.declared.statement.Bind.{Bind}
+use Rattle.rule_lang.specs.declared.statement.BindTo.TheVariants.{Code as ToCode, Point as ToPoint}
+use Rattle.rule_lang.specs.declared.statement.CodeTerm.{CodeTerm}
+use Rattle.rule_lang.specs.declared.statement.CodeTerm.TheVariants.{Text, Head as HeadCode}
+use Rattle.rule_lang.specs.declared.statement.CodeTerm.TheVariants.{Line as LineCode}
+use Rattle.rule_lang.specs.declared.statement.Part.{Part}
+use Rattle.rule_lang.specs.declared.statement.Part.TheVariants.{Line, Cost}
+use Rattle.rule_lang.specs.declared.statement.Place.{Place}
+use Rattle.rule_lang.specs.declared.statement.Statement.{Statement}
+use Rattle.rule_lang.specs.declared.statement.Sum.{Sum}
 use Rattle.desk_words.specs.declared.request.Request.{Request}
 use Rattle.desk_words.specs.declared.request.Request.TheVariants.{Write, Mark as MarkRequest}
-use Rattle.desk_words.specs.declared.request.Request.TheVariants.{Manual}
+use Rattle.desk_words.specs.declared.request.Request.TheVariants.{Manual, Post, Unpost}
 use Rattle.desk_words.specs.declared.request.Request.TheVariants.{Activity, Close, Sweep, Balance}
 use Rattle.desk_words.specs.declared.request.Request.TheVariants.{Doc}
+use Rattle.desk_words.specs.declared.request.Post.TheVariants.{Content, Standing}
+use Rattle.desk_words.specs.declared.request.Write.{Write as WriteRequest}
 use Rattle.desk_words.specs.declared.request.FieldText.{FieldText}
 use Rattle.desk_words.specs.declared.request.RecordText.{RecordText}
 use Rattle.desk_words.specs.declared.request.RecordText.TheVariants.{Register as InRegister}
@@ -64,7 +82,7 @@ account_of code name nature extras = record {
 abbrev pub field_of : List ℕ → Option ℕ → Field
 field_of name scale = record { name = name; scale = scale }
 
--- a type without rules, whose lines have an item and a quantity, and these fields besides
+-- a type whose lines have an item and a quantity, and these fields besides
 abbrev pub kind_of : List ℕ → List Field → List Field → Kind
 kind_of name head more = record {
   name = name;
@@ -74,7 +92,7 @@ kind_of name head more = record {
 }
 
 abbrev pub everything_allowed : List Right
-everything_allowed = WriteRight ∷ Post ∷ ManualRight ∷ Read ∷ Lock ∷ Admin ∷ []
+everything_allowed = WriteRight ∷ PostRight ∷ ManualRight ∷ Read ∷ Lock ∷ Admin ∷ []
 
 -- a ledger of goods with their item, of suppliers and of cost
 abbrev pub main_ledger : Chart
@@ -86,6 +104,79 @@ main_ledger = record {
       ∷ account_of (codes "60") (codes "Suppliers") Passive []
       ∷ account_of (codes "90") (codes "Cost") Active [] ∷ [];
 }
+
+-- ---- the rules of its types
+
+abbrev pub just : Part → Sum
+just part = record { terms = record { minus = false; negative = false; part = part } ∷ [] }
+
+-- the quantity and the amount of a line, and what its write-off cost
+abbrev pub line_quantity : Sum
+line_quantity = just (Line 1)
+
+abbrev pub line_amount : Sum
+line_amount = just (Line 2)
+
+abbrev pub line_cost : Sum
+line_cost = just Cost
+
+abbrev pub bound : ℕ → CodeTerm → Bind
+bound dimension term = record { dimension = dimension; to = ToCode term }
+
+-- the item of a line, and the head's warehouse with it
+abbrev pub line_item : List Bind
+line_item = bound 0 (LineCode 0) ∷ []
+
+abbrev pub warehouse_and_item : List Bind
+warehouse_and_item = bound 0 (HeadCode 0) ∷ bound 1 (LineCode 0) ∷ []
+
+-- the lot of the document's own point
+abbrev pub own_lot : Bind
+own_lot = record { dimension = 2; to = ToPoint }
+
+-- goods of a line's item
+abbrev pub goods_place : Option Place
+goods_place = Some (record { account = Text (codes "10"); extras = LineCode 0 ∷ [] })
+
+abbrev pub plain_place : List ℕ → Option Place
+plain_place code = Some (record { account = Text code; extras = [] })
+
+abbrev pub each_line : Act → Statement
+each_line act = record { each = true; act = act; when = None }
+
+abbrev pub once : Act → Statement
+once act = record { each = false; act = act; when = None }
+
+-- a fill receives goods
+abbrev pub fill_rules : List Statement
+fill_rules =
+    each_line (Make MakesReceipt 0 line_item ((0, line_quantity) ∷ (1, line_amount) ∷ [])) ∷ []
+
+-- an issue writes goods off at their average
+abbrev pub issue_rules : List Statement
+issue_rules = each_line (WriteOff false 0 line_item 0 line_quantity 1) ∷ []
+
+-- a receipt makes a lot of stock of each line, and its entry
+abbrev pub receipt_rules : List Statement
+receipt_rules =
+    each_line (Make MakesReceipt 2
+    (bound 0 (HeadCode 0) ∷ bound 1 (LineCode 0) ∷ own_lot ∷ [])
+    ((0, line_quantity) ∷ (1, line_amount) ∷ []))
+    ∷ each_line (Entry 0 goods_place (plain_place (codes "60")) line_amount) ∷ []
+
+-- a sale writes stock off, the oldest lots first; its turn and its entry have the cost
+abbrev pub sale_rules : List Statement
+sale_rules =
+    each_line (WriteOff true 2 warehouse_and_item 0 line_quantity 1)
+    ∷ each_line (Make MakesTurn 1 line_item ((0, line_quantity) ∷ (1, line_cost) ∷ []))
+    ∷ each_line (Entry 0 (plain_place (codes "90")) goods_place line_cost) ∷ []
+
+-- a take takes goods of which no less than nothing may be left
+abbrev pub take_rules : List Statement
+take_rules = each_line (Make MakesExpense 0 line_item ((0, line_quantity) ∷ []))
+    ∷ once (Control 0 0) ∷ []
+
+-- ---- the shop
 
 -- a shop: goods, sales and stock, one ledger, five types of documents and two clerks
 abbrev pub shop : Setting
@@ -107,7 +198,9 @@ shop = record {
     clerks = record { name = codes "anna"; rights = everything_allowed }
         ∷ record { name = codes "boris"; rights = everything_allowed } ∷ [];
   };
-  rules = record { kinds = [] };
+  rules = record {
+    kinds = fill_rules ∷ issue_rules ∷ receipt_rules ∷ sale_rules ∷ take_rules ∷ [];
+  };
 }
 
 -- a shop's desk on which nothing was done yet
@@ -176,10 +269,10 @@ received item quantity amount =
 abbrev pub nails_under : ℕ → Request
 nails_under nr = manual nr (received (codes "nail") (codes "10.000") (codes "50.00") ∷ [])
 
--- a document of a type, whose place another may have and whose key may be there
-abbrev pub write_at : ℕ → Option ℕ → Option (List ℕ) → List ℕ → ℕ → List FieldText
-    → List (List FieldText) → Request
-write_at nr doc key kind date head lines = Write (record {
+-- the content of a document of a type, whose place another may have and whose key may be there
+abbrev pub content_at : ℕ → Option ℕ → Option (List ℕ) → List ℕ → ℕ → List FieldText
+    → List (List FieldText) → WriteRequest
+content_at nr doc key kind date head lines = record {
   clerk = codes "anna";
   no = nr;
   doc = doc;
@@ -190,7 +283,22 @@ write_at nr doc key kind date head lines = Write (record {
   lines = lines;
   comment = None;
   tx = None;
-})
+}
+
+-- a document of this content is written, and is posted
+abbrev pub write_at : ℕ → Option ℕ → Option (List ℕ) → List ℕ → ℕ → List FieldText
+    → List (List FieldText) → Request
+write_at nr doc key kind date head lines = Write (content_at nr doc key kind date head lines)
+
+abbrev pub post_at : ℕ → Option ℕ → List ℕ → ℕ → List FieldText → List (List FieldText) → Request
+post_at nr doc kind date head lines = Post (Content (content_at nr doc None kind date head lines))
+
+-- a document is posted as it stands, and loses its records again
+abbrev pub post : ℕ → ℕ → Request
+post nr doc = Post (Standing (record { clerk = codes "anna"; no = nr; doc = doc; tx = None }))
+
+abbrev pub unpost : ℕ → ℕ → Request
+unpost nr doc = Unpost (record { clerk = codes "anna"; no = nr; doc = doc; tx = None })
 
 abbrev pub text_of : List ℕ → List ℕ → FieldText
 text_of name text = record { name = name; text = text }
@@ -199,6 +307,21 @@ text_of name text = record { name = name; text = text }
 abbrev pub filled : List ℕ → List ℕ → List ℕ → List FieldText
 filled amount item quantity = text_of (codes "amount") amount ∷ text_of (codes "item") item
     ∷ text_of (codes "quantity") quantity ∷ []
+
+-- a line with an item and a quantity
+abbrev pub counted : List ℕ → List ℕ → List FieldText
+counted item quantity = text_of (codes "item") item ∷ text_of (codes "quantity") quantity ∷ []
+
+-- a head with the main warehouse
+abbrev pub in_main : List FieldText
+in_main = text_of (codes "warehouse") (codes "main") ∷ []
+
+-- new documents that are posted: of goods, and of stock in the main warehouse
+abbrev pub post_goods : ℕ → List ℕ → ℕ → List (List FieldText) → Request
+post_goods nr kind date lines = post_at nr None kind date [] lines
+
+abbrev pub post_stock : ℕ → List ℕ → ℕ → List (List FieldText) → Request
+post_stock nr kind date lines = post_at nr None kind date in_main lines
 
 -- a new fill of these lines on the tenth
 abbrev pub fill : ℕ → List (List FieldText) → Request
@@ -228,16 +351,19 @@ close nr date = Close (record { clerk = codes "anna"; no = nr; date = date })
 abbrev pub sweep : ℕ → ℕ → Request
 sweep nr doc = Sweep (record { clerk = codes "anna"; no = nr; doc = doc })
 
--- the balance of goods
-abbrev pub goods_at : Option Cut → Request
-goods_at cut = Balance (record {
+-- the balance of a register, and that of goods
+abbrev pub balance_at : List ℕ → Option Cut → Request
+balance_at register cut = Balance (record {
   clerk = codes "anna";
-  register = codes "goods";
+  register = register;
   filter = None;
   group = None;
   cut = cut;
   tx = None;
 })
+
+abbrev pub goods_at : Option Cut → Request
+goods_at cut = balance_at (codes "goods") cut
 
 abbrev pub show : ℕ → Request
 show doc = Doc (record { clerk = codes "anna"; doc = doc; tx = None })
