@@ -51,10 +51,7 @@ pub(crate) fn failed_control(
 }
 
 // The registers and resources that statements control, in order.
-pub(crate) fn controls_of(
-    alloc: Global,
-    statements: &[Statement],
-) -> Result<Vec<(u8, u8)>, Memory>
+pub(crate) fn controls_of(alloc: Global, statements: &[Statement]) -> Result<Vec<(u8, u8)>, Memory>
     ensures { IfOk result (λ controls. controls.items ≡ controls_in statements.now) }
 {
     let mut controls = Vec::new(alloc);
@@ -207,12 +204,7 @@ fn changed_rows(
 }
 
 // The records of one resource that count the same, or take it back.
-fn changed_set(
-    alloc: Global,
-    set: &[Rec],
-    resource: usize,
-    back: bool,
-) -> Result<List<Rec>, Memory>
+fn changed_set(alloc: Global, set: &[Rec], resource: usize, back: bool) -> Result<List<Rec>, Memory>
     ensures { IfOk result (λ changes. changes ≡ map (change_of_record back resource) set.now) }
 {
     let mut changes = List::new(alloc);

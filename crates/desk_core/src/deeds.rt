@@ -25,7 +25,7 @@ ghost use Rattle.desk_plans.specs.Tries.{Tries};
 
 use crate::books::Books;
 use crate::clerks::{clerk_of, is_allowed, is_clerk, right_of};
-use crate::controls::{controls_of, failed_control, statements_for};
+use crate::controls::{controls_of, failed_control};
 use crate::desk::Desk;
 use crate::numbers::number_reply;
 use crate::outcome::{Outcome, close_outcome, document_outcome, refusal_outcome, removal_outcome};
@@ -35,6 +35,7 @@ use desk_plans::{
     plan_standing, plan_sweep, plan_unpost, plan_write, record_count,
 };
 use desk_words::{Manual, Post, Refusal, Request, StandingDocument, Sweep, Switch, Write};
+use post_rules::statements_for;
 use reg_base::{Code, Document, Memory};
 use std::alloc::Global;
 
@@ -113,7 +114,11 @@ impl Desk {
 
     // What it comes to that a document is posted as it stands.
     #[tactic(auto, unfolding(desk_model::specs::Serial::change_effect))]
-    fn standing_outcome(&self, alloc: Global, document: &StandingDocument) -> Result<Outcome, Memory>
+    fn standing_outcome(
+        &self,
+        alloc: Global,
+        document: &StandingDocument,
+    ) -> Result<Outcome, Memory>
         ensures { IfOk result (Comes self.now.desk
             (or_stop (deed_at self.now.desk (RequestIs.Post (PostIs.Standing document.now))))) }
     {
@@ -297,8 +302,14 @@ impl Desk {
         if let Some(refusal) = self.limit_passed(sight, lines, records) {
             return Ok(refusal_outcome(refusal));
         }
-        let documents = self.store.documents();
-        match failed_control(alloc, &self.config, documents, controls, sight.before, &document)? {
+        match failed_control(
+            alloc,
+            &self.config,
+            &self.store,
+            controls,
+            sight.before,
+            &document,
+        )? {
             Some(refusal) => Ok(refusal_outcome(refusal)),
             None => Ok(document_outcome(document)),
         }

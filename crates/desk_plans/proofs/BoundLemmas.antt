@@ -119,7 +119,7 @@ record_set-IsSet date given are =
         length-with_lines 1 date (filter is_made given),
       ),
       with_lines-numbers 1 date (filter is_made given)
-      (All-filter is_made (λ (g : Given). AreNumbers g.sums) given are),
+          (All-filter is_made (λ (g : Given). AreNumbers g.sums) given are),
     ))
 
 entry_at-within : (chart : Chart) (date line : ℕ) (given : GivenEntry) →

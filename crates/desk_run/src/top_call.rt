@@ -130,11 +130,7 @@ fn run_config<S: Source, O: Sink>(
 }
 
 // The configuration of this name, with its rules.
-fn read_config<F: Shelf>(
-    alloc: Global,
-    name: &str,
-    shelf: &mut F,
-) -> Result<(Config, Rules), Fault>
+fn read_config<F: Shelf>(alloc: Global, name: &str, shelf: &mut F) -> Result<(Config, Rules), Fault>
     ensures reads { ReadsConfig name.now
         (shelf_of F.files F.faults shelf.old)
         (shelf_of F.files F.faults shelf.new) result }

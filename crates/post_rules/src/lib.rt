@@ -29,4 +29,4 @@ mod write_offs;
 mod yields;
 
 pub use fault::{Fault, YieldFault};
-pub use yields::yield_sets;
+pub use yields::{statements_for, yield_sets};

@@ -50,8 +50,8 @@ pub fn yield_sets<B: Balances>(
     })
 }
 
-// The statements of a document's type; a document without a type has none.
-fn statements_for<'a>(rules: &'a Rules, doc: &Doc) -> &'a [Statement]
+/// The statements of a document's type; a document without a type has none.
+pub fn statements_for<'a>(rules: &'a Rules, doc: &Doc) -> &'a [Statement]
     ensures { result.now ≡ statements_of rules.now doc.now }
 {
     let Some(kind) = doc.kind else {
