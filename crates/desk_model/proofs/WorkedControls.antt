@@ -253,13 +253,13 @@ unfolding step effect_of change_effect plan_effect work_effect limits_of right_w
 which_is_told = refl
 
 -- a desk with ten nails in stock, where the greatest number was drawn
-no_more : Desk
-no_more = record ten_in_stock {
+all_drawn : Desk
+all_drawn = record ten_in_stock {
   serial = record ten_in_stock.serial { top = 4_294_967_295 };
 }
 
 -- that no number is left is told before what a sale misses
-no_number_left : replies no_more (sale_of_four (codes "6.001") ∷ [])
+numbers_before_rules : replies all_drawn (sale_of_four (codes "6.001") ∷ [])
     ≡ Refused (Limit Numbers 4_294_967_295) ∷ []
 unfolding step effect_of change_effect plan_effect work_effect limits_of right_word
     plan_post plan_content kind_of_request content_of cells_of is_code parse_num digits_from
@@ -268,12 +268,12 @@ unfolding step effect_of change_effect plan_effect work_effect limits_of right_w
     all_in_stock taken write_off cost_of number_for numbers_for at_place record_made expenses_made
     checked entry_made entry_check account_at lot_places written_off act_on act_run statement_run
     round_run lines_run yield_of sum_rows
-    no_more ten_in_stock sale_of_four
-no_number_left = refl
+    all_drawn ten_in_stock sale_of_four
+numbers_before_rules = refl
 
 -- a desk on which nobody may post
-barred : Desk
-barred = record empty {
+nobody_posts : Desk
+nobody_posts = record empty {
   setting = record shop {
     config = record shop.config {
       clerks = record { name = codes "anna"; rights = WriteRight ∷ Read ∷ [] } ∷ [];
@@ -282,9 +282,9 @@ barred = record empty {
 }
 
 -- to post and to unpost asks for the right to post
-right_to_post : replies barred
+right_to_post : replies nobody_posts
     (post_goods 1 (codes "fill") tenth [] ∷ post 1 1 ∷ unpost 1 1 ∷ [])
     ≡ Refused (NotAllowed PostRight) ∷ Refused (NotAllowed PostRight)
     ∷ Refused (NotAllowed PostRight) ∷ []
-unfolding step effect_of right_word barred
+unfolding step effect_of right_word nobody_posts
 right_to_post = refl
