@@ -32,17 +32,19 @@ use Rattle.desk_words.specs.declared.request.Request.{Request}
 use Rattle.desk_words.specs.declared.reply.Reply.{Reply}
 use Rattle.desk_words.specs.declared.reply.Reply.TheVariants.{Done, Refused}
 use Rattle.desk_words.specs.declared.reply.Acknowledgement.TheVariants.{Document as DocumentStands}
-use Rattle.desk_words.specs.declared.reply.Acknowledgement.TheVariants.{Closed as BooksClosed, Swept}
+use Rattle.desk_words.specs.declared.reply.Acknowledgement.TheVariants.{Closed as BooksClosed}
+use Rattle.desk_words.specs.declared.reply.Acknowledgement.TheVariants.{Swept}
 use Rattle.desk_words.specs.declared.reply.Answer.{Answer}
 use Rattle.desk_words.specs.declared.reply.Answer.TheVariants.{Acknowledged}
 use Rattle.desk_words.specs.declared.reply.Answer.TheVariants.{Balance as BalanceAnswer}
+use Rattle.desk_words.specs.declared.reply.Field.TheVariants.{Kind}
 use Rattle.desk_words.specs.declared.reply.Refusal.TheVariants.{UnknownDoc, WrongState, Closed}
 use Rattle.desk_model.specs.Manuals.{space_of, given_set, given_sets, plan_manual}
 use Rattle.desk_model.specs.GivenRecords.{record_in_register, given_record}
 use Rattle.desk_model.specs.RecordSets.{record_set}
 use Rattle.desk_model.specs.States.{plan_mark, plan_sweep}
 use Rattle.desk_model.specs.Fields.{cells_of}
-use Rattle.desk_model.specs.Writes.{kind_of_request, content_of, plan_content}
+use Rattle.desk_model.specs.Writes.{kind_of_request, content_of, plan_content, plan_write}
 use Rattle.desk_model.specs.Posts.{plan_post, plan_standing, plan_unpost}
 use Rattle.desk_model.specs.Questions.{question_balance}
 use Rattle.desk_model.specs.Limits.{limits_of}
@@ -55,11 +57,11 @@ use Rattle.desk_model.specs.Desk.{step}
 use Rattle.desk_model.proofs.RowBooks.{shop, empty, morning, tenth, eleventh, twelfth, side}
 use Rattle.desk_model.proofs.RowBooks.{nails_under, post_at, post, unpost, filled, counted}
 use Rattle.desk_model.proofs.RowBooks.{post_goods, post_stock, mark, close, sweep, balance_at}
-use Rattle.desk_model.proofs.RowBooks.{goods_at, show, stands, replies, after}
+use Rattle.desk_model.proofs.RowBooks.{goods_at, show, write_at, stands, bad_field, replies, after}
 
 -- ---- what the rows ask, and what they are answered
 
--- fills of one nail for 1.00, two for 2.00, and so on: a quantity and an amount of nails
+-- one line of nails, with an amount and without one
 abbrev nails_for : List ℕ → List ℕ → List (List FieldText)
 nails_for quantity amount = filled amount (codes "nail") quantity ∷ []
 
@@ -94,11 +96,13 @@ first_record date mark values quantity amount = record {
 }
 
 abbrev of_nails : ℕ → Mark → ℕ → ℕ → Rec
-of_nails date mark quantity amount = first_record date mark (Code (codes "nail") ∷ []) quantity amount
+of_nails date mark quantity amount =
+    first_record date mark (Code (codes "nail") ∷ []) quantity amount
 
 -- nails in the main warehouse, of the lot of a point
 abbrev lot : ℕ → ℕ → List Value
-lot date doc = Code (codes "main") ∷ Code (codes "nail") ∷ Lot (record { date = date; doc = doc }) ∷ []
+lot date doc = Code (codes "main") ∷ Code (codes "nail")
+    ∷ Lot (record { date = date; doc = doc }) ∷ []
 
 -- ---- what is posted
 
@@ -278,6 +282,28 @@ unfolding step effect_of change_effect plan_effect work_effect limits_of right_w
     document_effect document_answer
     screws
 posted_and_swept = refl
+
+-- a written document is posted as it stands; a posted one is not written, its type stays, and it is
+-- written again once it is unposted
+written_and_posted : replies empty
+    (write_at 1 None None (codes "fill") tenth [] (nails_for (codes "5") (codes "5.00"))
+    ∷ goods_at None ∷ post 2 1 ∷ goods_at None
+    ∷ write_at 3 (Some 1) None (codes "fill") tenth [] []
+    ∷ post_at 3 (Some 1) (codes "take") tenth [] [] ∷ post_at 3 (Some 2) (codes "fill") tenth [] []
+    ∷ unpost 3 1 ∷ write_at 4 (Some 1) None (codes "fill") tenth [] [] ∷ [])
+    ≡ stands true 1 Written ∷ rows [] ∷ stands true 1 Posted
+    ∷ rows (goods_row (codes "nail") 5_000 500 ∷ []) ∷ Refused (WrongState Posted) ∷ bad_field Kind
+    ∷ Refused UnknownDoc ∷ stands true 1 Written ∷ stands true 1 Written ∷ []
+unfolding step effect_of change_effect plan_effect work_effect limits_of right_word
+    plan_post plan_content kind_of_request content_of cells_of is_code parse_num digits_from
+    decimals_from last_digits_from units_of
+    share total_at terms_value sum_value bound_value cond_holds when_holds read_item left_of
+    all_in_stock taken write_off cost_of number_for numbers_for at_place record_made expenses_made
+    checked entry_made entry_check account_at lot_places written_off act_on act_run statement_run
+    round_run lines_run yield_of sum_rows
+    question_effect question_answer question_balance
+    plan_write plan_standing plan_unpost
+written_and_posted = refl
 
 -- ---- documents that lose their records again
 
