@@ -1,7 +1,7 @@
 -- What is left of records is not too many records with numbers that are not too large, and so are
 -- the holdings of it.
 use Rattle.std.proofs.Common.{ℕ, zero, suc, ◌+◌, ◌*◌, ◌≤◌, ℤ, pos, ◌+ℤ◌, unsigned_abs}
-use Rattle.std.proofs.Common.{Bool, true, false, Option, Some, List, [], ◌∷◌, map, cond}
+use Rattle.std.proofs.Common.{Bool, true, false, Option, Some, List, [], ◌∷◌, map}
 use Rattle.std.proofs.Common.{length, arith, length-append}
 use Rattle.std.specs.Prelude.{All, unwrap_or, slice_get, slice_index_or, if◌then◌else◌}
 use Rattle.std.specs.List.{filter, range_with_len}

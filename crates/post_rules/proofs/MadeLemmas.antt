@@ -1,5 +1,5 @@
 -- What statements make stays small.
-use Rattle.std.proofs.Common.{◌≡◌, ℕ, ◌+◌, ◌*◌, ◌≤◌, ℤ, pos, ◌+ℤ◌, ◌-ℤ◌, unsigned_abs, Bool}
+use Rattle.std.proofs.Common.{◌≡◌, ℕ, ◌*◌, ◌≤◌, ℤ, pos, ◌-ℤ◌, unsigned_abs, Bool}
 use Rattle.std.proofs.Common.{true, false, ◌&&◌, Option, None, Some, List, [], ◌∷◌, ◌++◌, length}
 use Rattle.std.proofs.Common.{Result, Ok, Err, IfOk, refl, sym, subst, arith}
 use Rattle.std.proofs.Common.{length-append, set, int_le}
