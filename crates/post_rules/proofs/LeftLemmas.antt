@@ -1,7 +1,7 @@
 -- What is left of records is not too many records with numbers that are not too large, and so are
 -- the holdings of it.
 use Rattle.std.proofs.Common.{ℕ, zero, suc, ◌+◌, ◌*◌, ◌≤◌, ℤ, pos, ◌+ℤ◌, unsigned_abs}
-use Rattle.std.proofs.Common.{Bool, true, false, Option, Some, List, [], ◌∷◌, map, cond}
+use Rattle.std.proofs.Common.{Bool, true, false, Option, Some, List, [], ◌∷◌, map}
 use Rattle.std.proofs.Common.{length, arith, length-append}
 use Rattle.std.specs.Prelude.{All, unwrap_or, slice_get, slice_index_or, if◌then◌else◌}
 use Rattle.std.specs.List.{filter, range_with_len}
@@ -10,6 +10,7 @@ use Rattle.std.specs.declared.cmp.Ordering.{Ordering}
 use Rattle.std.specs.declared.cmp.Ordering.TheVariants.{Less, Equal, Greater}
 use Rattle.std.proofs.lemmas.Int.{ints}
 use Rattle.std.proofs.lemmas.List.{length-map}
+use Rattle.std.proofs.lemmas.List.Sums.{length-filter, count_by-le-length}
 use Rattle.std.proofs.lemmas.List.Elements.{All-nil, All-append, All-filter, All-map, All-head}
 use Rattle.std.proofs.lemmas.List.Elements.{All-tail, All-weaker}
 use Rattle.reg_base.specs.declared.records.Doc.{Doc}
@@ -65,7 +66,8 @@ contribution-within by group j b has = at (is_eq (values_cmp (group_of by b) gro
     at true = amount-within j b.rec has
     at false = omega arith
 
-sum-within : (a b : ℤ) (m n : ℕ) → unsigned_abs a ≤ m → unsigned_abs b ≤ n
+-- a sum is no larger than its parts are together
+pub sum-within : (a b : ℤ) (m n : ℕ) → unsigned_abs a ≤ m → unsigned_abs b ≤ n
     → unsigned_abs (a +ℤ b) ≤ m + n
 sum-within a b m n h k = omega (arith, ints, h, k)
 
@@ -104,15 +106,10 @@ length-groups_of by [] = omega arith
 length-groups_of by (b ∷ bs) =
     omega (arith, length-put_once (group_of by b) (groups_of by bs), length-groups_of by bs)
 
+-- a part of a list is no longer
 pub length-filter_le : {X : Type 0} (test : X → Bool) (xs : List X)
     → length (filter test xs) ≤ length xs
-length-filter_le test [] = omega arith
-length-filter_le {X} test (x ∷ xs) = at (length-filter_le test xs) (test x)
-  where
-    at : length (filter test xs) ≤ length xs → (passes : Bool)
-        → length (cond passes (x ∷ filter test xs) (filter test xs)) ≤ suc (length xs)
-    at ih true = omega (arith, ih)
-    at ih false = omega (arith, ih)
+length-filter_le test xs = omega (arith, length-filter test xs, count_by-le-length test xs)
 
 length-sum_rows : (n : ℕ) (by : Option (List ℕ)) (bs : List Booked)
     → length (sum_rows n by bs) ≤ length bs

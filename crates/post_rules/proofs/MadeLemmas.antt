@@ -1,12 +1,14 @@
 -- What statements make stays small.
-use Rattle.std.proofs.Common.{◌≡◌, ℕ, ◌+◌, ◌*◌, ◌≤◌, ℤ, pos, ◌+ℤ◌, ◌-ℤ◌, unsigned_abs, Bool}
+use Rattle.std.proofs.Common.{◌≡◌, ℕ, ◌*◌, ◌≤◌, ℤ, pos, ◌-ℤ◌, unsigned_abs, Bool}
 use Rattle.std.proofs.Common.{true, false, ◌&&◌, Option, None, Some, List, [], ◌∷◌, ◌++◌, length}
-use Rattle.std.proofs.Common.{Result, Ok, Err, IfOk, refl, sym, subst, arith, length-append, set, int_le}
+use Rattle.std.proofs.Common.{Result, Ok, Err, IfOk, refl, sym, subst, arith}
+use Rattle.std.proofs.Common.{length-append, set, int_le}
 use Rattle.std.specs.Prelude.{All, unwrap_or, slice_get, nat_lt, option_map}
 use Rattle.std.specs.Ordering.{int_eq}
 use Rattle.std.specs.List.{list_all, range_with_len}
 use Rattle.std.proofs.lemmas.Int.{ints}
-use Rattle.std.proofs.lemmas.List.Elements.{All-nil, All-cons, All-head, All-tail, All-set, All-push}
+use Rattle.std.proofs.lemmas.List.Elements.{All-nil, All-cons, All-head, All-tail}
+use Rattle.std.proofs.lemmas.List.Elements.{All-set, All-push}
 use Rattle.reg_base.specs.declared.fault.PostFault.{PostFault}
 use Rattle.reg_base.specs.declared.fault.PostFault.TheVariants.{Negative, Shortage, Broken}
 use Rattle.reg_base.specs.declared.fault.PostFault.TheVariants.{TooManyRecords}
@@ -40,6 +42,7 @@ use Rattle.post_rules.specs.Sheets.{HasNumbers, IsSheet}
 use Rattle.post_rules.specs.Bounds.{largest_sum, IsSmallHolding, AreSmallHoldings}
 use Rattle.post_rules.specs.Bounds.{IsSmallSet, IsSmallMade, IsReadable}
 use Rattle.post_rules.specs.Tries.{Tries}
+use Rattle.post_rules.proofs.LeftLemmas.{sum-within}
 use Rattle.post_rules.proofs.LeftLemmas.{small-place, IsReadable-left_of, AreSmall-holdings_of}
 use Rattle.post_rules.proofs.SmallTakes.{AreSmall-taken}
 
@@ -132,10 +135,6 @@ small-write_off scene wanted holdings small =
     (Shortage scene.rule scene.line (wanted -ℤ all_in_stock holdings))
     (λ _. Ok (taken wanted holdings))
     (λ within. AreSmall-taken wanted holdings (grind (arith, ints, above)) small))
-
-sum-within : (a b : ℤ) (m n : ℕ) → unsigned_abs a ≤ m → unsigned_abs b ≤ n
-    → unsigned_abs (a +ℤ b) ≤ m + n
-sum-within a b m n h k = omega (arith, ints, h, k)
 
 cost-within : (takes : List Holding) → All IsSmallHolding takes
     → unsigned_abs (cost_of takes) ≤ length takes * largest_sum

@@ -1,6 +1,7 @@
 -- A document's own expenses, one record more, and how large sums get.
 use Rattle.std.proofs.Common.{◌≡◌, ℕ, ◌+◌, ◌<◌, ◌≤◌, ◌^◌, ℤ, unsigned_abs, Bool, true, false}
-use Rattle.std.proofs.Common.{◌&&◌, Option, List, [], ◌∷◌, ◌++◌, map, take, length, get_or, refl, ap}
+use Rattle.std.proofs.Common.{◌&&◌, Option, List, [], ◌∷◌, ◌++◌, map, take, length, get_or}
+use Rattle.std.proofs.Common.{refl, ap}
 use Rattle.std.proofs.Common.{sym, subst, ◌∙◌, arith, append-nil, cond}
 use Rattle.std.specs.List.{filter}
 use Rattle.std.proofs.lemmas.Int.{ints}

@@ -1,5 +1,6 @@
 -- What is taken from holdings is no larger than they are.
-use Rattle.std.proofs.Common.{◌≡◌, ℕ, zero, suc, ◌+◌, ◌*◌, ◌/◌, ◌<◌, ◌≤◌, ℤ, pos, negsuc, ◌-ℤ◌, ◌≤ℤ◌}
+use Rattle.std.proofs.Common.{◌≡◌, ℕ, zero, suc, ◌+◌, ◌*◌, ◌/◌, ◌<◌, ◌≤◌, ℤ, pos, negsuc}
+use Rattle.std.proofs.Common.{◌-ℤ◌, ◌≤ℤ◌}
 use Rattle.std.proofs.Common.{unsigned_abs, List, [], ◌∷◌, length, refl, sym, subst, int_lt, Bool}
 use Rattle.std.proofs.Common.{true, false, arith}
 use Rattle.std.specs.Prelude.{if◌then◌else◌, All}

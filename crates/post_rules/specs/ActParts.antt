@@ -14,9 +14,9 @@ use Rattle.post_model.specs.WriteOffs.{write_off}
 use Rattle.post_model.specs.Yields.{width_of, depth_of, written_off}
 
 -- an expense for each that was taken
-abbrev pub expenses_of : Config → Scene → ℕ → List Bind → ℕ → ℕ → List Holding → Made →
+abbrev pub expenses_for : Config → Scene → ℕ → List Bind → ℕ → ℕ → List Holding → Made →
     Result Made PostFault
-expenses_of config scene register binds quantity amount takes made =
+expenses_for config scene register binds quantity amount takes made =
     expenses_made scene register
     (λ (h : Holding). values_with scene binds h.lot (width_of config register))
     (λ (h : Holding). taken_numbers quantity amount h (depth_of config register)) takes made

@@ -7,7 +7,7 @@ ghost use Rattle.post_model.specs.Makes.{taken_numbers as taken_numbers_of};
 ghost use Rattle.post_model.specs.Yields.{written_off as written_off_of};
 ghost use Rattle.post_model.specs.Yields.{width_of as width_at, depth_of as depth_at};
 ghost use Rattle.post_rules.specs.Bounds.{AreSmallHoldings};
-ghost use Rattle.post_rules.specs.ActParts.{expenses_of};
+ghost use Rattle.post_rules.specs.ActParts.{expenses_for};
 ghost use Rattle.post_rules.specs.SceneViews.{scene_view};
 ghost use Rattle.post_rules.specs.Tries.{Tries};
 
@@ -59,7 +59,7 @@ fn expenses_made(
     takes: &[Holding],
     begun: Made,
 ) -> Tried<Made>
-    ensures { Tries result (expenses_of config.now (scene_view scene.now) register binds.now
+    ensures { Tries result (expenses_for config.now (scene_view scene.now) register binds.now
         quantity amount takes.now begun) }
 {
     let mut made = begun;
@@ -84,7 +84,8 @@ fn expense_made(
     made: Made,
 ) -> Tried<Made>
     ensures { Tries result (record_made_of (scene_view scene.now) register Expense
-        (values_with_of (scene_view scene.now) binds.now take.now.lot (width_at config.now register))
+        (values_with_of (scene_view scene.now) binds.now take.now.lot
+        (width_at config.now register))
         (taken_numbers_of quantity amount take.now (depth_at config.now register)) made) }
 {
     let values = scene.values_with(alloc, binds, &take.lot, width_of(config, register))?;

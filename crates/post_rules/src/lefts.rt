@@ -1,5 +1,6 @@
 //! What is left of the records that an item names.
-ghost use Rattle.std.specs.Prelude.{◌≡◌, ℕ, List, [], ◌++◌, ◌≤◌, ◌&&◌, All, Some, length, map, unwrap_or, slice_get, IfOk};
+ghost use Rattle.std.specs.Prelude.{◌≡◌, ℕ, List, [], ◌++◌, ◌≤◌, ◌&&◌, All, Some, length, map};
+ghost use Rattle.std.specs.Prelude.{unwrap_or, slice_get, IfOk};
 ghost use Rattle.reg_base.specs.Records.{Booked, matches as matches_of};
 ghost use Rattle.reg_base.specs.Balances.{sum_rows};
 ghost use Rattle.post_model.specs.Lefts.{is_expense as is_expense_of, left_of};

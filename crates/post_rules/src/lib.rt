@@ -4,11 +4,13 @@
 //! `specs/Tries.antt` says that a call makes this or has its first fault.
 //!
 //! Stands on: `post_model` for what is made, `rule_lang` for statements, `cfg_model` for registers
-//! and charts, `reg_base` for documents, records, balances and shares.
+//! and charts, `doc_store` for the balances that a posting asks for, `row_sums` for sums by group,
+//! `reg_base` for documents, records and shares.
 //!
-//! Promises: `yield_sets` makes exactly what the definition makes, or has its first fault.
+//! Promises: `yield_sets` makes exactly what the definition makes, or is refused with its first
+//! fault.
 //!
-//! Leaves open: where the records come from, and when memory is wanted.
+//! Leaves open: where the records of other documents stand, and when memory is wanted.
 #![tactic(auto)]
 
 mod acts;

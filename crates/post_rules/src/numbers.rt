@@ -2,7 +2,8 @@
 ghost use Rattle.std.specs.Prelude.{◌≡◌, ℕ, ℤ, ◌==◌, pos, if◌then◌else◌, IfOk, Ok};
 ghost use Rattle.std.specs.List.{range_with_len};
 ghost use Rattle.post_model.specs.Scenes.{sum_value};
-ghost use Rattle.post_model.specs.Makes.{number_for as number_for_in, numbers_for as numbers_for_in};
+ghost use Rattle.post_model.specs.Makes.{number_for as number_for_in};
+ghost use Rattle.post_model.specs.Makes.{numbers_for as numbers_for_in};
 ghost use Rattle.post_model.specs.Makes.{taken_numbers as taken_numbers_of};
 ghost use Rattle.post_rules.specs.Bounds.{IsSmallScene};
 ghost use Rattle.post_rules.specs.SceneViews.{scene_view};

@@ -10,8 +10,8 @@ resources-preserved c =
     let f : ℕ → ℤ = λ r. if r == c.args.quantity then c.args.take.now.quantity
     else (if r == c.args.amount then c.args.take.now.amount else pos 0) in
     let fits : SFits w128 c.taken_number.result = search rules in
-    c.in_ok-push.ensures.items
-    ∙ ap (λ (x : ℤ). c.resources.numbers.items ++ x ∷ [])
+    ◌∙◌ {A = List ℤ} c.in_ok-push.ensures.items
+    (ap (λ (x : ℤ). c.resources.numbers.items ++ x ∷ [])
     (to_z-of_z w128 c.taken_number.result fits ∙ c.taken_number.ensures)
     ∙ ap (λ (xs : List ℤ). xs ++ f c.resources.resource ∷ []) c.resources.invariant
-    ∙ sym (map-range_with_len_more f 0 c.resources.resource c.resources.resource (omega arith))
+    ∙ sym (map-range_with_len_more f 0 c.resources.resource c.resources.resource (omega arith)))

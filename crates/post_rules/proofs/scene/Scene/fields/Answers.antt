@@ -9,7 +9,7 @@ pub dimensions-preserved : goal.dimensions-preserved
 dimensions-preserved c =
     let f : ℕ → Option Value = bound_value (scene_view c.args.self.now) c.args.binds.now in
     let j = c.dimensions.dimension in
-    c.in_ok-push.ensures.items
-    ∙ ap (λ (x : Option Value). c.dimensions.fields.items ++ x ∷ []) c.bound_value.ensures
+    ◌∙◌ {A = List (Option Value)} c.in_ok-push.ensures.items
+    (ap (λ (x : Option Value). c.dimensions.fields.items ++ x ∷ []) c.bound_value.ensures
     ∙ ap (λ (xs : List (Option Value)). xs ++ f j ∷ []) c.dimensions.invariant
-    ∙ sym (map-range_with_len_more f 0 j j (omega arith))
+    ∙ sym (map-range_with_len_more f 0 j j (omega arith)))

@@ -20,7 +20,7 @@ dimensions-preserved c =
     let f : ℕ → Option Value =
     λ d. option_or (bound_value (scene_view c.args.self.now) c.args.binds.now d)
     c.args.lot.now in
-    c.in_ok-push.ensures.items
-    ∙ ap (λ (xs : List Value). xs ++ c.in-Some.value ∷ []) c.dimensions.invariant
+    ◌∙◌ {A = List Value} c.in_ok-push.ensures.items
+    (ap (λ (xs : List Value). xs ++ c.in-Some.value ∷ []) c.dimensions.invariant
     ∙ sym (some-more f c.dimensions.dimension c.in-Some.value
-    (sym c.value_or.ensures ∙ c.in-Some.is))
+    (sym c.value_or.ensures ∙ c.in-Some.is)))
