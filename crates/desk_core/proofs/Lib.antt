@@ -1,3 +1,4 @@
+pub mod ControlLemmas
 pub mod DeedLemmas
 pub mod DeskLemmas
 pub mod DocumentLists
