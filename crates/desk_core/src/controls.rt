@@ -19,7 +19,7 @@ ghost use Rattle.desk_core.specs.Controls.{own_set as own_set_of, opposite as op
 use cfg_model::{Config, Register, Resource};
 use desk_words::Refusal;
 use doc_store::{Documents, Store};
-use reg_base::{DocState, Document, List, Mark, Memory, Rec, SumRow, Value};
+use reg_base::{DocState, Document, List, Mark, Memory, Rec, SumRow};
 use row_sums::RowSums;
 use rule_lang::{Act, Statement};
 use std::alloc::Global;

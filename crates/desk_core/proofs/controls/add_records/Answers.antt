@@ -4,7 +4,7 @@ use Rattle.reg_base.specs.declared.records.Rec.{Rec}
 use Rattle.reg_base.specs.Records.{Booked}
 use Rattle.row_sums.specs.Sums.{booked, Adds}
 use Rattle.row_sums.proofs.ForAbove.{Adds-both, reach-more}
-use Rattle.desk_core.proofs.ControlLemmas.{set-more, set-few}
+use Rattle.desk_core.proofs.ControlSums.{set-more, set-few}
 use Rattle.desk_core.proofs.controls.add_records.Goals as goal
 
 pub add-requires : goal.add-requires

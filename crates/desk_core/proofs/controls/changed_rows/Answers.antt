@@ -1,7 +1,7 @@
-use Rattle.std.proofs.Common.{◌≡◌, ℕ, ◌+◌, ◌^◌, ◌++◌, None, IfOk, true, false, List, [], length, map, ap, ◌∙◌, sym}
+use Rattle.std.proofs.Common.{◌≡◌, ◌+◌, ◌^◌, ◌++◌, None, IfOk, true, false, List}
+use Rattle.std.proofs.Common.{[], length, map, ap, ◌∙◌, sym}
 use Rattle.std.proofs.Common.{subst, arith}
 use Rattle.std.proofs.lemmas.List.{map-append, length-map}
-use Rattle.reg_base.specs.declared.records.SumRow.{SumRow}
 use Rattle.reg_base.specs.Records.{Booked}
 use Rattle.reg_base.specs.Balances.{sum_rows}
 use Rattle.row_sums.specs.Sums.{booked, AddsUp, AreInReach}

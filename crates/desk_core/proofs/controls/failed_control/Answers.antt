@@ -1,4 +1,4 @@
-use Rattle.std.proofs.Common.{◌+◌, Option, Some, List, ap, ◌∙◌, sym, drop}
+use Rattle.std.proofs.Common.{◌+◌, Option, Some, ap, ◌∙◌, sym, drop}
 use Rattle.std.specs.Option.{option_copied}
 use Rattle.desk_words.specs.declared.reply.Refusal.{Refusal}
 use Rattle.reg_base.specs.Documents.{with_document}

@@ -2,7 +2,7 @@ use Rattle.std.proofs.Common.{None, subst}
 use Rattle.std.specs.List.{flat_map}
 use Rattle.row_sums.specs.Sums.{Adds}
 use Rattle.desk_core.specs.Controls.{booked_by_other}
-use Rattle.desk_core.proofs.ControlLemmas.{AddsUp-with}
+use Rattle.desk_core.proofs.ControlSums.{AddsUp-with}
 use Rattle.desk_core.proofs.controls.sums_behind.Goals as goal
 
 pub returns : goal.returns

@@ -1,4 +1,4 @@
-use Rattle.std.proofs.Common.{◌≡◌, ◌+◌, ◌*◌, ◌^◌, ◌++◌, ◌∷◌, None, List, [], length, map, ap, ◌∙◌, sym}
+use Rattle.std.proofs.Common.{◌≡◌, ◌+◌, ◌^◌, ◌++◌, ◌∷◌, None, List, [], length, ap, ◌∙◌, sym}
 use Rattle.std.proofs.Common.{subst, take, arith, length-append}
 use Rattle.std.specs.List.{flat_map}
 use Rattle.std.proofs.lemmas.List.{take_all, length_push, length-map}
@@ -10,7 +10,7 @@ use Rattle.row_sums.specs.Sums.{booked, Adds, AddsUp}
 use Rattle.row_sums.proofs.ForAbove.{AddsUp-nil, Adds-both, reach-more}
 use Rattle.desk_plans.specs.ShortLists.{HasShortLists}
 use Rattle.desk_core.specs.Controls.{booked_by_other}
-use Rattle.desk_core.proofs.ControlLemmas.{documents-more}
+use Rattle.desk_core.proofs.ControlSums.{documents-more}
 use Rattle.desk_core.proofs.controls.sums_of_others.Goals as goal
 
 pub set_of_other-set-requires : goal.set_of_other-set-requires
