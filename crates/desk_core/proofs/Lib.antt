@@ -1,3 +1,5 @@
+pub mod ControlLemmas
+pub mod ControlSums
 pub mod DeedLemmas
 pub mod DeskLemmas
 pub mod DocumentLists

@@ -1,9 +1,8 @@
 -- Private: how a document's records before and after a change are set against each other, and which
 -- other records count.
 use Rattle.std.specs.Prelude.{◌≡◌, ℕ, pos, Bool, if◌then◌else◌, ◌==◌, Option, Some, None, List}
-use Rattle.std.specs.Prelude.{true, false, [], ◌∷◌, ◌++◌, map, slice_get, unwrap_or}
+use Rattle.std.specs.Prelude.{true, false, int_lt, [], ◌∷◌, ◌++◌, map, slice_get, unwrap_or}
 use Rattle.std.specs.List.{All}
-use Rattle.std.specs.Ordering.{int_lt}
 use Rattle.reg_base.specs.declared.records.Mark.{Mark}
 use Rattle.reg_base.specs.declared.records.Mark.TheVariants.{Receipt, Expense, Turn}
 use Rattle.reg_base.specs.declared.records.Rec.{Rec}

@@ -1,9 +1,9 @@
 //! Controls: what must not be below zero behind a post by rules.
 ghost use Rattle.std.specs.Prelude.{◌≡◌, ℕ, ◌≤◌, ◌<◌, ◌^◌, ◌&&◌, pos, Some, None, List, [], length};
-ghost use Rattle.std.specs.Prelude.{map, slice_get, IfOk};
-ghost use Rattle.std.specs.List.{All, flat_map};
+ghost use Rattle.std.specs.Prelude.{map, slice_get, int_lt, IfOk};
+ghost use Rattle.std.specs.List.{All, flat_map, prefix_len};
 ghost use Rattle.std.specs.Option.{ForSome, option_copied};
-ghost use Rattle.std.specs.Ordering.{int_lt};
+ghost use Rattle.std.specs.Ordering.{is_lt};
 ghost use Rattle.reg_base.specs.Documents.{with_document, AreInOrder};
 ghost use Rattle.reg_base.specs.Records.{Booked, booked_by, put as put_in_order, records_of};
 ghost use Rattle.reg_base.specs.Balances.{sum_rows};
@@ -19,7 +19,7 @@ ghost use Rattle.desk_core.specs.Controls.{own_set as own_set_of, opposite as op
 use cfg_model::{Config, Register, Resource};
 use desk_words::Refusal;
 use doc_store::{Documents, Store};
-use reg_base::{DocState, Document, List, Mark, Memory, Rec, SumRow, Value};
+use reg_base::{DocState, Document, List, Mark, Memory, Rec, SumRow};
 use row_sums::RowSums;
 use rule_lang::{Act, Statement};
 use std::alloc::Global;
@@ -42,9 +42,8 @@ pub(crate) fn failed_control(
         (Some after.now)) }
 {
     for control in controls {
-        let failure = failure_at(alloc, config, store, *control, before, after)?;
-        if failure.is_some() {
-            return Ok(failure);
+        if let Some(refusal) = failure_at(alloc, config, store, *control, before, after)? {
+            return Ok(Some(refusal));
         }
     }
     Ok(None)
@@ -55,10 +54,8 @@ pub(crate) fn controls_of(alloc: Global, statements: &[Statement]) -> Result<Vec
     ensures { IfOk result (λ controls. controls.items ≡ controls_in statements.now) }
 {
     let mut controls = Vec::new(alloc);
-    let mut left = statements.len();
-    while left > 0 {
-        left -= 1;
-        if let Some(control) = controlled_by(&statements[left].act) {
+    for place in (0..statements.len()).rev() {
+        if let Some(control) = controlled_by(&statements[place].act) {
             put_control(&mut controls, control)?;
         }
     }
@@ -80,9 +77,27 @@ fn put_control(controls: &mut Vec<(u8, u8)>, control: (u8, u8)) -> Result<(), Me
     ensures { IfOk result (λ _.
         controls.new.items ≡ put_in_order control_cmp control controls.old.items) }
 {
-    let place = controls.iter().take_while(|c| **c < control).count();
+    let place = place_among(controls, control);
     controls.insert(place, control)?;
     Ok(())
+}
+
+// How many controls stand before one.
+fn place_among(controls: &[(u8, u8)], control: (u8, u8)) -> usize
+    ensures value { result ≡ prefix_len (λ c. is_lt (control_cmp c control)) controls.now }
+    ensures within { result ≤ length controls.now }
+{
+    controls
+        .iter()
+        .take_while(|c| is_before(**c, control))
+        .count()
+}
+
+// Whether a control stands before another.
+fn is_before(control: (u8, u8), other: (u8, u8)) -> bool
+    ensures { result ≡ is_lt (control_cmp control other) }
+{
+    control.cmp(&other).is_lt()
 }
 
 // The first combination of a control that fails.
@@ -148,7 +163,7 @@ fn first_below(
 {
     for row in changes {
         let balance = sums.sum_of(row.group.as_slice(), place);
-        if has_fallen(row) && balance < 0 {
+        if is_failure(row, balance) {
             let refusal = refusal_of(alloc, register, resource, row, balance)?;
             return Ok(Some(refusal));
         }
@@ -156,11 +171,11 @@ fn first_below(
     Ok(None)
 }
 
-// Whether the first sum of a row is below zero.
-fn has_fallen(row: &SumRow) -> bool
-    ensures { result ≡ int_lt (sum_at row.now.sums 0) (pos 0) }
+// Whether the sum of a row's combination fell and this balance is below zero.
+fn is_failure(row: &SumRow, balance: i128) -> bool
+    ensures { result ≡ (int_lt (sum_at row.now.sums 0) (pos 0) && int_lt balance (pos 0)) }
 {
-    row.sums.get(0).copied().unwrap_or(0) < 0
+    row.sums.get(0).copied().unwrap_or(0) < 0 && balance < 0
 }
 
 // The refusal of the combination of a row.

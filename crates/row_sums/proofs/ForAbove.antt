@@ -1,6 +1,10 @@
 -- For the crates above: the lemmas of this crate that their proofs may cite.
 use Rattle.std.proofs.Common.{◌≡◌, ℕ, ◌*◌, ◌<◌, ◌≤◌, Option, List, [], ◌++◌, length}
-use Rattle.std.specs.List.{flat_map}
+use Rattle.std.specs.List.{flat_map, AllByRecursion}
+use Rattle.std.specs.Cmp.{IsTotalOrder}
+use Rattle.std.specs.declared.cmp.Ordering.{Ordering}
+use Rattle.std.specs.declared.cmp.Ordering.TheVariants.{Less}
+use Rattle.std.proofs.lemmas.Map.Lookups.{CmpEqualImpliesEq}
 use Rattle.reg_base.specs.declared.value.Value.{Value}
 use Rattle.reg_base.specs.declared.records.Document.{Document}
 use Rattle.reg_base.specs.declared.records.Filter.{Filter}
@@ -14,6 +18,13 @@ use Rattle.row_sums.proofs.AddLemmas as one
 use Rattle.row_sums.proofs.AddsLemmas as many
 use Rattle.row_sums.proofs.OrderLemmas as orders
 use Rattle.row_sums.proofs.ReachLemmas as sizes
+use Rattle.row_sums.proofs.RisingLemmas as rising
+
+-- what is below an element is below all that are above it
+pub all-below : {X : Type 0} {R : X → X → Ordering} → IsTotalOrder R → CmpEqualImpliesEq R
+    → (k x : X) (ys : List X) → R k x ≡ Less → AllByRecursion (λ y. R x y ≡ Less) ys
+    → AllByRecursion (λ y. R k y ≡ Less) ys
+all-below o exact = rising.all-below o exact
 
 -- no rows add up no records
 pub AddsUp-nil : (by : Option (List ℕ)) (resources : ℕ) → AddsUp by resources [] []
