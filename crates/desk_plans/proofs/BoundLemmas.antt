@@ -4,7 +4,7 @@ use Rattle.std.proofs.Common.{List, [], ◌∷◌, map, length, filter, slice_se
 use Rattle.std.proofs.Common.{Err, IfOk, refl, ap, subst, arith, length-set}
 use Rattle.std.specs.Option.{ForSome}
 use Rattle.std.proofs.lemmas.Bool.{leb-true}
-use Rattle.std.specs.List.{AllZip}
+use Rattle.std.specs.List.{All, AllZip}
 use Rattle.std.proofs.lemmas.List.Elements.{All-nil, All-cons, All-head, All-tail, All-filter}
 use Rattle.reg_base.specs.declared.records.Doc.{Doc}
 use Rattle.reg_base.specs.declared.records.Document.{Document}
@@ -119,7 +119,7 @@ record_set-IsSet date given are =
         length-with_lines 1 date (filter is_made given),
       ),
       with_lines-numbers 1 date (filter is_made given)
-      (All-filter is_made (λ (g : Given). AreNumbers g.sums) given are),
+          (All-filter is_made (λ (g : Given). AreNumbers g.sums) given are),
     ))
 
 entry_at-within : (chart : Chart) (date line : ℕ) (given : GivenEntry) →

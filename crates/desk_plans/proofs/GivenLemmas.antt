@@ -31,7 +31,7 @@ use Rattle.desk_model.specs.declared.plan.Space.TheVariants.{Register as Registe
 use Rattle.desk_model.specs.declared.plan.Space.TheVariants.{Ledger as LedgerSpace}
 use Rattle.desk_model.specs.GivenRecords.{value_in, units_in, amount_in, with_front, values_for}
 use Rattle.desk_model.specs.GivenRecords.{takes_mark, record_in_register, given_record, given_entry}
-use Rattle.desk_model.specs.Manuals.{space_of, given_set, sets_in, are_distinct, given_sets}
+use Rattle.desk_model.specs.Manuals.{given_set, sets_in}
 use Rattle.desk_plans.specs.Bounds.{AreNumbers, GivesNumbersIn}
 
 -- what holds of all that can be read holds of each that is
@@ -109,7 +109,7 @@ module _ (in_range : (text : List ℕ) (scale : ℕ) →
       (λ chart. IfOk-next GivesNumbersIn (each (given_entry chart) set.records)
       (λ entries. Ok (Entries place entries)) (λ entries. tt))
 
-  sets_in-numbers : (config : Config) (spaces : List Space) (sets : List SetText) →
+  pub sets_in-numbers : (config : Config) (spaces : List Space) (sets : List SetText) →
       IfOk (sets_in config spaces sets) (All GivesNumbersIn)
   sets_in-numbers config [] sets = All-nil GivesNumbersIn
   sets_in-numbers config (space ∷ spaces) [] = All-nil GivesNumbersIn
@@ -121,13 +121,3 @@ module _ (in_range : (text : List ℕ) (scale : ℕ) →
       (sets_in config spaces sets) (λ more. Ok (given ∷ more))
       (sets_in-numbers config spaces sets)
       (λ more are. All-cons GivesNumbersIn given more is are))
-
-  pub given_sets-numbers : (config : Config) (sets : List SetText) →
-      IfOk (given_sets config sets) (All GivesNumbersIn)
-  unfolding given_sets
-  given_sets-numbers config sets =
-      IfOk-next (All GivesNumbersIn) (each (space_of config) sets) _
-      (λ spaces. IfOk-then (All GivesNumbersIn) (All GivesNumbersIn) (sets_in config spaces sets) _
-      (sets_in-numbers config spaces sets)
-      (λ given are. IfOk-unless (All GivesNumbersIn) (are_distinct spaces) (BadField SpaceField) _
-      (λ distinct. are)))

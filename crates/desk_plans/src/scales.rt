@@ -62,7 +62,9 @@ fn quantity_scale(config: &Config, act: &Act) -> Option<Scale>
     ensures { result ≡ quantity_scale_of config.now act.now }
 {
     let Act::WriteOff {
-        register, quantity, ..
+        register,
+        quantity,
+        ..
     } = act
     else {
         return None;

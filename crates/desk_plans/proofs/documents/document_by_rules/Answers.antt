@@ -1,0 +1,10 @@
+use Rattle.std.proofs.Common.{Err, ap, sym, ◌∙◌}
+use Rattle.desk_words.specs.declared.reply.Refusal.TheVariants.{Rule}
+use Rattle.desk_model.specs.DocumentSets.{with_yield}
+use Rattle.desk_plans.proofs.documents.document_by_rules.Goals as goal
+
+pub returns-in-Err-Refused-clause-value : goal.returns-in-Err-Refused-clause-value
+returns-in-Err-Refused-clause-value g c =
+    ap (with_yield (record { config = c.args.config.now; rules = c.args.rules.now }) c.args.doc)
+    c.in-Err-Refused.ensures
+    ∙ ap (λ scale. Err (Rule c.in-Err-Refused.fault scale)) (sym c.fault_scale-scale.ensures)
