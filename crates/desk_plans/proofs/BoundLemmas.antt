@@ -37,7 +37,7 @@ use Rattle.desk_model.specs.State.{Setting}
 use Rattle.desk_model.specs.DocumentSets.{document_of, sets_before, with_yield}
 use Rattle.desk_plans.specs.declared.tried.PartFault.{PartFault}
 use Rattle.desk_plans.specs.declared.tried.PartFault.TheVariants.{Refused, Memory}
-use Rattle.desk_plans.specs.Bounds.{AreShort, AreNumbers, HaveNumbers, IsWithinBounds}
+use Rattle.desk_plans.specs.Bounds.{AreNumbers, HaveNumbers, IsWithinBounds}
 use Rattle.desk_plans.specs.Bounds.{GivesNumbersIn}
 use Rattle.desk_plans.specs.DocumentParts.{with_sets}
 use Rattle.desk_plans.specs.Tries.{Tries}

@@ -8,13 +8,12 @@ use Rattle.std.proofs.lemmas.List.Elements.{All-nil, All-cons}
 use Rattle.reg_base.specs.declared.num.Num.{Num}
 use Rattle.reg_base.specs.declared.num.NumFault.{NumFault}
 use Rattle.reg_base.specs.Numbers.{largest_units, parse_num}
-use Rattle.reg_base.specs.Results.{◌>>=◌, unless, some_or, each}
+use Rattle.reg_base.specs.Results.{◌>>=◌, some_or, each}
 use Rattle.reg_base.proofs.ForAbove.{IfOk-then, IfOk-next, IfOk-unless, IfOk-some_or}
 use Rattle.cfg_model.specs.declared.config.Config.{Config}
 use Rattle.cfg_model.specs.declared.register.Register.{Register}
 use Rattle.cfg_model.specs.declared.register.Resource.{Resource}
 use Rattle.post_model.specs.Scenes.{is_number}
-use Rattle.desk_words.specs.declared.reply.Refusal.{Refusal}
 use Rattle.desk_words.specs.declared.reply.Refusal.TheVariants.{BadField}
 use Rattle.desk_words.specs.declared.reply.Field.TheVariants.{Space as SpaceField, Values, Sums}
 use Rattle.desk_words.specs.declared.reply.Field.TheVariants.{Kind}
@@ -24,7 +23,6 @@ use Rattle.desk_words.specs.declared.request.RecordText.TheVariants.{Ledger as I
 use Rattle.desk_words.specs.declared.request.RegisterText.{RegisterText}
 use Rattle.desk_words.specs.declared.request.SetText.{SetText}
 use Rattle.desk_model.specs.declared.plan.Given.{Given}
-use Rattle.desk_model.specs.declared.plan.GivenSet.{GivenSet}
 use Rattle.desk_model.specs.declared.plan.GivenSet.TheVariants.{Records, Entries}
 use Rattle.desk_model.specs.declared.plan.Space.{Space}
 use Rattle.desk_model.specs.declared.plan.Space.TheVariants.{Register as RegisterSpace}

@@ -1,11 +1,9 @@
-use Rattle.std.proofs.Common.{Ok, subst, sym}
+use Rattle.std.proofs.Common.{subst, sym}
 use Rattle.std.specs.Option.{option_copied, ForSome}
 use Rattle.post_model.specs.Yields.{yield_of}
-use Rattle.desk_model.specs.RecordSets.{given_by_hand, no_sets}
 use Rattle.desk_model.specs.State.{Setting}
-use Rattle.desk_model.specs.DocumentSets.{sets_before, with_yield, document_from}
+use Rattle.desk_model.specs.DocumentSets.{with_yield, document_from}
 use Rattle.desk_plans.specs.Bounds.{IsWithinBounds, GivesNumbers}
-use Rattle.desk_plans.specs.DocumentParts.{with_sets}
 use Rattle.desk_plans.specs.Tries.{Tries}
 use Rattle.desk_plans.proofs.BoundLemmas.{IfOk-Tries, by_hand-bounds, with_yield-bounds}
 use Rattle.desk_plans.proofs.BoundLemmas.{kept-bounds, none-bounds}
