@@ -4,7 +4,7 @@ use Rattle.std.proofs.Common.{List, [], ◌∷◌, map, length, filter, slice_se
 use Rattle.std.proofs.Common.{Err, IfOk, refl, ap, subst, arith, length-set}
 use Rattle.std.specs.Option.{ForSome}
 use Rattle.std.proofs.lemmas.Bool.{leb-true}
-use Rattle.std.specs.List.{AllZip}
+use Rattle.std.specs.List.{All, AllZip}
 use Rattle.std.proofs.lemmas.List.Elements.{All-nil, All-cons, All-head, All-tail, All-filter}
 use Rattle.reg_base.specs.declared.records.Doc.{Doc}
 use Rattle.reg_base.specs.declared.records.Document.{Document}
@@ -37,7 +37,7 @@ use Rattle.desk_model.specs.State.{Setting}
 use Rattle.desk_model.specs.DocumentSets.{document_of, sets_before, with_yield}
 use Rattle.desk_plans.specs.declared.tried.PartFault.{PartFault}
 use Rattle.desk_plans.specs.declared.tried.PartFault.TheVariants.{Refused, Memory}
-use Rattle.desk_plans.specs.Bounds.{AreShort, AreNumbers, HaveNumbers, IsWithinBounds}
+use Rattle.desk_plans.specs.Bounds.{AreNumbers, HaveNumbers, IsWithinBounds}
 use Rattle.desk_plans.specs.Bounds.{GivesNumbersIn}
 use Rattle.desk_plans.specs.DocumentParts.{with_sets}
 use Rattle.desk_plans.specs.Tries.{Tries}

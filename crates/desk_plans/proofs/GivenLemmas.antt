@@ -8,13 +8,12 @@ use Rattle.std.proofs.lemmas.List.Elements.{All-nil, All-cons}
 use Rattle.reg_base.specs.declared.num.Num.{Num}
 use Rattle.reg_base.specs.declared.num.NumFault.{NumFault}
 use Rattle.reg_base.specs.Numbers.{largest_units, parse_num}
-use Rattle.reg_base.specs.Results.{◌>>=◌, unless, some_or, each}
+use Rattle.reg_base.specs.Results.{◌>>=◌, some_or, each}
 use Rattle.reg_base.proofs.ForAbove.{IfOk-then, IfOk-next, IfOk-unless, IfOk-some_or}
 use Rattle.cfg_model.specs.declared.config.Config.{Config}
 use Rattle.cfg_model.specs.declared.register.Register.{Register}
 use Rattle.cfg_model.specs.declared.register.Resource.{Resource}
 use Rattle.post_model.specs.Scenes.{is_number}
-use Rattle.desk_words.specs.declared.reply.Refusal.{Refusal}
 use Rattle.desk_words.specs.declared.reply.Refusal.TheVariants.{BadField}
 use Rattle.desk_words.specs.declared.reply.Field.TheVariants.{Space as SpaceField, Values, Sums}
 use Rattle.desk_words.specs.declared.reply.Field.TheVariants.{Kind}
@@ -24,14 +23,13 @@ use Rattle.desk_words.specs.declared.request.RecordText.TheVariants.{Ledger as I
 use Rattle.desk_words.specs.declared.request.RegisterText.{RegisterText}
 use Rattle.desk_words.specs.declared.request.SetText.{SetText}
 use Rattle.desk_model.specs.declared.plan.Given.{Given}
-use Rattle.desk_model.specs.declared.plan.GivenSet.{GivenSet}
 use Rattle.desk_model.specs.declared.plan.GivenSet.TheVariants.{Records, Entries}
 use Rattle.desk_model.specs.declared.plan.Space.{Space}
 use Rattle.desk_model.specs.declared.plan.Space.TheVariants.{Register as RegisterSpace}
 use Rattle.desk_model.specs.declared.plan.Space.TheVariants.{Ledger as LedgerSpace}
 use Rattle.desk_model.specs.GivenRecords.{value_in, units_in, amount_in, with_front, values_for}
 use Rattle.desk_model.specs.GivenRecords.{takes_mark, record_in_register, given_record, given_entry}
-use Rattle.desk_model.specs.Manuals.{space_of, given_set, sets_in, are_distinct, given_sets}
+use Rattle.desk_model.specs.Manuals.{given_set, sets_in}
 use Rattle.desk_plans.specs.Bounds.{AreNumbers, GivesNumbersIn}
 
 -- what holds of all that can be read holds of each that is
@@ -109,7 +107,7 @@ module _ (in_range : (text : List ℕ) (scale : ℕ) →
       (λ chart. IfOk-next GivesNumbersIn (each (given_entry chart) set.records)
       (λ entries. Ok (Entries place entries)) (λ entries. tt))
 
-  sets_in-numbers : (config : Config) (spaces : List Space) (sets : List SetText) →
+  pub sets_in-numbers : (config : Config) (spaces : List Space) (sets : List SetText) →
       IfOk (sets_in config spaces sets) (All GivesNumbersIn)
   sets_in-numbers config [] sets = All-nil GivesNumbersIn
   sets_in-numbers config (space ∷ spaces) [] = All-nil GivesNumbersIn
@@ -121,13 +119,3 @@ module _ (in_range : (text : List ℕ) (scale : ℕ) →
       (sets_in config spaces sets) (λ more. Ok (given ∷ more))
       (sets_in-numbers config spaces sets)
       (λ more are. All-cons GivesNumbersIn given more is are))
-
-  pub given_sets-numbers : (config : Config) (sets : List SetText) →
-      IfOk (given_sets config sets) (All GivesNumbersIn)
-  unfolding given_sets
-  given_sets-numbers config sets =
-      IfOk-next (All GivesNumbersIn) (each (space_of config) sets) _
-      (λ spaces. IfOk-then (All GivesNumbersIn) (All GivesNumbersIn) (sets_in config spaces sets) _
-      (sets_in-numbers config spaces sets)
-      (λ given are. IfOk-unless (All GivesNumbersIn) (are_distinct spaces) (BadField SpaceField) _
-      (λ distinct. are)))

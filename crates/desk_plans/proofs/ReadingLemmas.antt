@@ -1,5 +1,5 @@
 -- Reading one element after another.
-use Rattle.std.proofs.Common.{◌≡◌, ℕ, ◌+◌, ◌<◌, ◌≤◌, List, [], ◌∷◌, ◌++◌, length, drop, take, map}
+use Rattle.std.proofs.Common.{◌≡◌, ℕ, ◌+◌, ◌<◌, ◌≤◌, List, [], ◌∷◌, ◌++◌, length, drop}
 use Rattle.std.proofs.Common.{get_or, suc, Result, Ok, Err, refl, ap, ◌∙◌, sym, arith, add-one}
 use Rattle.std.proofs.Common.{drop-cons, append-nil, append_assoc}
 use Rattle.std.proofs.lemmas.List.{drop_all}

@@ -1,5 +1,5 @@
 -- How many sets a document has at the most, how long they are, and how large their numbers.
-use Rattle.std.specs.Prelude.{◌≡◌, ℕ, ◌≤◌, ℤ, true, ⊤, List, All, length}
+use Rattle.std.specs.Prelude.{◌≡◌, ◌≤◌, ℤ, true, ⊤, List, All, length}
 use Rattle.reg_base.specs.declared.records.Document.{Document}
 use Rattle.reg_base.specs.declared.records.Rec.{Rec}
 use Rattle.post_model.specs.Scenes.{is_number}

@@ -9,13 +9,10 @@ ghost use Rattle.post_model.specs.Laws.{AreSetsOf};
 ghost use Rattle.post_rules.specs.Sheets.{IsSheet};
 ghost use Rattle.desk_model.specs.DocumentSets.{document_from as document_of_plan};
 ghost use Rattle.desk_model.specs.DocumentSets.{sets_before as sets_before_of, with_yield};
-ghost use Rattle.desk_model.specs.DocumentSets.{fault_scale as fault_scale_of};
 ghost use Rattle.desk_model.specs.RecordSets.{no_sets as no_sets_of};
 ghost use Rattle.desk_model.specs.RecordSets.{given_by_hand as given_by_hand_of};
 ghost use Rattle.desk_plans.specs.Bounds.{IsWithinBounds, GivesNumbers};
 ghost use Rattle.desk_plans.specs.DocumentParts.{with_sets};
-ghost use Rattle.desk_words.specs.declared.reply.Refusal.TheVariants.{Rule};
-ghost use Rattle.desk_plans.specs.declared.tried.PartFault.TheVariants.{Refused};
 ghost use Rattle.desk_plans.specs.Tries.{Tries};
 
 use crate::copies::copy_sets;
@@ -28,11 +25,12 @@ use desk_words::Refusal;
 use doc_store::Balances;
 use post_model::yields_are_within_limits;
 use post_rules::{Fault, yield_sets};
-use reg_base::{Doc, Document, List, Memory, PostFault, Sets};
+use reg_base::{Doc, Document, List, Memory, Sets};
 use rule_lang::Rules;
 use std::alloc::Global;
 
-// No memory holds so many lines.
+// The most lines that rules are run over. No memory holds more, so where there are more, memory is
+// what is wanted.
 const MOST_LINES: usize = 0xffff_ffff;
 
 /// The document of a plan with its records, none where it is removed, or why its records can't be
@@ -108,18 +106,12 @@ fn document_by_rules<B: Balances>(
             let sets = made.sets;
             Ok(Some(Document { doc, sets }))
         }
-        Err(Fault::Refused(fault)) => Err(refused_by_rule(config, rules, &doc, fault)),
+        Err(Fault::Refused(fault)) => {
+            let scale = fault_scale(config, rules, &doc, &fault);
+            Err(PartFault::Refused(Refusal::Rule { fault, scale }))
+        }
         Err(Fault::Memory) => Err(PartFault::Memory),
     }
-}
-
-// The refusal of a fault that the rules of the document's type had.
-fn refused_by_rule(config: &Config, rules: &Rules, doc: &Doc, fault: PostFault) -> PartFault
-    ensures { result ≡ Refused (Rule fault
-        (fault_scale_of (record { config = config.now; rules = rules.now }) doc.now fault)) }
-{
-    let scale = fault_scale(config, rules, doc, &fault);
-    PartFault::Refused(Refusal::Rule { fault, scale })
 }
 
 // A document that keeps the records that it had.

@@ -1,10 +1,9 @@
-use Rattle.std.proofs.Common.{Ok, subst}
+use Rattle.std.proofs.Common.{subst, sym}
 use Rattle.std.specs.Option.{option_copied, ForSome}
 use Rattle.post_model.specs.Yields.{yield_of}
-use Rattle.desk_model.specs.RecordSets.{given_by_hand, no_sets}
-use Rattle.desk_model.specs.DocumentSets.{sets_before, with_yield}
-use Rattle.desk_plans.specs.Bounds.{IsWithinBounds}
-use Rattle.desk_plans.specs.DocumentParts.{with_sets}
+use Rattle.desk_model.specs.State.{Setting}
+use Rattle.desk_model.specs.DocumentSets.{with_yield, document_from}
+use Rattle.desk_plans.specs.Bounds.{IsWithinBounds, GivesNumbers}
 use Rattle.desk_plans.specs.Tries.{Tries}
 use Rattle.desk_plans.proofs.BoundLemmas.{IfOk-Tries, by_hand-bounds, with_yield-bounds}
 use Rattle.desk_plans.proofs.BoundLemmas.{kept-bounds, none-bounds}
@@ -15,15 +14,17 @@ returns-in-ByHand-clause-bounds g c =
     IfOk-Tries (λ made. ForSome made IsWithinBounds) c.document_by_hand.result _
     c.document_by_hand.ensures
     (by_hand-bounds c.args.config.now c.args.plan.doc c.in-ByHand.given c.requires.limits
-    c.requires.given)
+    (subst GivesNumbers c.in-ByHand.is c.requires.given))
 
 pub returns-in-ByRules-clause-value : goal.returns-in-ByRules-clause-value
 returns-in-ByRules-clause-value g c = λ documents same.
-    subst (λ books. Tries c.document_by_rules.result (with_yield (record {
-      config = c.args.config.now;
-      rules = c.args.rules.now;
-    }) c.args.plan.doc (yield_of c.args.config.now c.args.rules.now c.args.plan.doc books))) same
-    c.document_by_rules.ensures.value
+    let setting : Setting = record { config = c.args.config.now; rules = c.args.rules.now } in
+    subst (λ source. Tries c.document_by_rules.result
+    (document_from setting documents (option_copied c.args.before) c.args.plan.doc source))
+    (sym c.in-ByRules.is)
+    (subst (λ books. Tries c.document_by_rules.result (with_yield setting c.args.plan.doc
+    (yield_of c.args.config.now c.args.rules.now c.args.plan.doc books))) same
+    c.document_by_rules.ensures.value)
 
 pub returns-in-ByRules-clause-bounds : goal.returns-in-ByRules-clause-bounds
 returns-in-ByRules-clause-bounds g c =
