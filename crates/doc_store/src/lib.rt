@@ -12,6 +12,7 @@
 //! Leaves open: how documents are kept, and when memory is refused.
 #![tactic(auto)]
 
+mod balances;
 mod committed;
 mod documents;
 mod index;
@@ -19,6 +20,7 @@ mod place;
 mod staged;
 mod store;
 
+pub use balances::Balances;
 pub use documents::Documents;
 pub use reg_base::{
     Comment, Doc, DocRow, DocState, Document, Filter, Found, Mark, Posting, Rec, Sets, SumRow,
