@@ -1,0 +1,9 @@
+pub mod LeftLemmas
+pub mod MadeLemmas
+pub mod NumberLemmas
+pub mod OwnLemmas
+pub mod PlaceLemmas
+pub mod RangeLemmas
+pub mod ReadLemmas
+pub mod SmallTakes
+pub mod TakeLemmas

@@ -1,0 +1,5 @@
+pub mod ActParts
+pub mod Bounds
+pub mod SceneViews
+pub mod Sheets
+pub mod Tries
