@@ -1,8 +1,8 @@
 -- What is left of records is not too many records with numbers that are not too large, and so are
 -- the holdings of it.
-use Rattle.std.proofs.Common.{ℕ, zero, suc, ◌+◌, ◌*◌, ◌≤◌, ℤ, pos, ◌+ℤ◌, unsigned_abs}
+use Rattle.std.proofs.Common.{◌≡◌, ℕ, zero, suc, ◌+◌, ◌*◌, ◌≤◌, ℤ, pos, ◌+ℤ◌, unsigned_abs}
 use Rattle.std.proofs.Common.{Bool, true, false, Option, Some, List, [], ◌∷◌, map}
-use Rattle.std.proofs.Common.{length, arith, length-append}
+use Rattle.std.proofs.Common.{length, arith, length-append, ◌∙◌}
 use Rattle.std.specs.Prelude.{All, unwrap_or, slice_get, slice_index_or, if◌then◌else◌}
 use Rattle.std.specs.List.{filter, range_with_len}
 use Rattle.std.specs.Ordering.{is_eq, match_ordering}
@@ -13,7 +13,10 @@ use Rattle.std.proofs.lemmas.List.{length-map}
 use Rattle.std.proofs.lemmas.List.Sums.{length-filter, count_by-le-length}
 use Rattle.std.proofs.lemmas.List.Elements.{All-nil, All-append, All-filter, All-map, All-head}
 use Rattle.std.proofs.lemmas.List.Elements.{All-tail, All-weaker}
+use Rattle.reg_base.specs.declared.cut.Cut.TheVariants.{BeforePoint}
+use Rattle.reg_base.specs.declared.point.Point.{Point}
 use Rattle.reg_base.specs.declared.records.Doc.{Doc}
+use Rattle.reg_base.specs.declared.records.Filter.{Filter}
 use Rattle.reg_base.specs.declared.records.Item.{Item}
 use Rattle.reg_base.specs.declared.records.Mark.{Mark}
 use Rattle.reg_base.specs.declared.records.Mark.TheVariants.{Receipt, Expense, Turn}
@@ -23,9 +26,11 @@ use Rattle.reg_base.specs.declared.records.SumRow.{SumRow}
 use Rattle.reg_base.specs.declared.value.Value.{Value}
 use Rattle.reg_base.specs.Numbers.{largest_units}
 use Rattle.reg_base.specs.Records.{Booked, values_cmp, put_once, amount_at, signed_amount, matches}
+use Rattle.reg_base.specs.Records.{without_recorder}
 use Rattle.reg_base.specs.Balances.{group_of, groups_of, contribution, total, row_of, is_shown}
-use Rattle.reg_base.specs.Balances.{sum_rows}
+use Rattle.reg_base.specs.Balances.{sum_rows, balance_of}
 use Rattle.cfg_model.specs.declared.config.Config.{Config}
+use Rattle.post_model.specs.Scenes.{own_point}
 use Rattle.post_model.specs.Lefts.{is_expense, filter_of, seen_of, left_of}
 use Rattle.post_model.specs.WriteOffs.{holding_of}
 use Rattle.post_model.specs.Yields.{told_apart, depth_of, holdings_of}
@@ -183,6 +188,17 @@ pub IsSheet-seen_of : (books : ℕ → List Booked) (doc : Doc) (item : Item)
     → IsSheet (books item.space) → IsSheet (seen_of books doc item)
 IsSheet-seen_of books doc item sheet =
     IsSheet-filter _ _ (IsSheet-filter _ _ (IsSheet-filter _ _ sheet))
+
+-- the rows of what a document sees, as a balance
+pub seen-rows : (books : ℕ → List Booked) (doc : Doc) (item : Item) (by : List ℕ)
+    (resources depth : ℕ) (asked : Filter) (point : Point) (rows : List SumRow)
+    → rows ≡ balance_of resources (without_recorder doc.number (books item.space)) asked (Some by)
+    (BeforePoint point)
+    → resources ≡ depth → asked ≡ filter_of item → point ≡ own_point doc
+    → rows ≡ sum_rows depth (Some by) (seen_of books doc item)
+seen-rows books doc item by resources depth asked point rows is deep same own =
+    is ∙ (λ i. balance_of (deep i) (without_recorder doc.number (books item.space)) (same i)
+    (Some by) (BeforePoint (own i)))
 
 -- the set of a register, or an empty one
 pub small-place : (sets : List (List Rec)) (place : ℕ) → All IsSmallSet sets
