@@ -12,8 +12,8 @@ use Rattle.reg_base.specs.declared.records.Rec.{Rec}
 use Rattle.reg_base.specs.declared.records.SumRow.{SumRow}
 use Rattle.reg_base.specs.Numbers.{largest_units}
 use Rattle.reg_base.specs.Records.{Booked, matches, amount_at}
-use Rattle.row_sums.specs.Sums.{booked, IsInReach, AreInReach, AreAmounts, Adds}
-use Rattle.row_sums.proofs.ForAbove.{Adds-both, reach-more, reach-sum_rows}
+use Rattle.row_sums.specs.Sums.{booked, IsWithin, AreInReach, AreAmounts, Adds}
+use Rattle.row_sums.proofs.ForAbove.{Adds-both, reach-more, within-sum_rows}
 use Rattle.post_model.specs.Lefts.{is_expense}
 use Rattle.post_rules.specs.Sheets.{HasNumbers, IsSheet}
 use Rattle.post_rules.specs.Bounds.{own_expenses, AreRowsOfSheet}
@@ -91,13 +91,13 @@ module _ (asked : Filter) (number : ℕ) where
         length-filter_le spent recs,
       )
 
-reach-one : (n : ℤ) → unsigned_abs n ≤ largest_units → IsInReach 1 n
+reach-one : (n : ℤ) → unsigned_abs n ≤ largest_units → IsWithin (2 ^ 63) n
 reach-one n small = (omega (arith, ints, small), omega (arith, ints, small))
 
-amounts-sheet : (bs : List Booked) → IsSheet bs → AreAmounts bs
+amounts-sheet : (bs : List Booked) → IsSheet bs → AreAmounts (2 ^ 63) bs
 amounts-sheet bs sheet =
     All-weaker (λ (b : Booked). HasNumbers b.rec)
-    (λ (b : Booked). (resource : ℕ) → IsInReach 1 (amount_at resource b.rec))
+    (λ (b : Booked). (resource : ℕ) → IsWithin (2 ^ 63) (amount_at resource b.rec))
     (λ b has resource. reach-one (amount_at resource b.rec) (amount-within resource b.rec has))
     bs sheet.small
 
@@ -112,7 +112,7 @@ own-reach asked number by resources rows old now recs i sheet begun few adds =
     let own : List Booked = own_expenses asked number (take i recs) in
     let first : AreInReach count old =
     subst (AreInReach count) (sym (begun ∙ sheet.same))
-    (reach-sum_rows resources by sheet.records (amounts-sheet sheet.records sheet.sheet)) in
+    (within-sum_rows (2 ^ 63) resources by sheet.records (amounts-sheet sheet.records sheet.sheet)) in
     reach-more (count + length own) (2 ^ 46)
     (omega (arith, sheet.sheet.few, length-own asked number (take i recs), length-take i recs, few))
     now (adds.reach count first)

@@ -8,7 +8,7 @@ use Rattle.reg_base.specs.declared.records.Document.{Document}
 use Rattle.reg_base.specs.Records.{Booked}
 use Rattle.row_sums.specs.Sums.{booked, Adds, AddsUp}
 use Rattle.row_sums.proofs.ForAbove.{AddsUp-nil, Adds-both, reach-more}
-use Rattle.desk_plans.specs.ShortLists.{HasShortLists}
+use Rattle.desk_plans.specs.Bounds.{IsWithinBounds}
 use Rattle.desk_core.specs.Controls.{booked_by_other}
 use Rattle.desk_core.proofs.ControlSums.{documents-more}
 use Rattle.desk_core.proofs.controls.sums_of_others.Goals as goal
@@ -19,7 +19,7 @@ set_of_other-set-requires c =
     c.into_iter-document-iterator.ensures.into_iter_gives)
     c.loop-document.yielded _ c.loop-document.yielded_by _ _ c.in-Some.document c.in-Some.is
     c.next.ensures.steps in
-    subst HasShortLists (sym turn.1)
+    subst IsWithinBounds (sym turn.1)
     (c.requires.short (length c.loop-document.yielded) c.in-Some.document.now turn.0)
 
 pub add_records-requires-clause-reach : goal.add_records-requires-clause-reach
