@@ -7,6 +7,8 @@ pub mod KeptLemmas
 pub mod LastLemmas
 pub mod LimitLemmas
 pub mod LineLemmas
+pub mod MadeLemmas
 pub mod PlanLemmas
 pub mod RowLemmas
+pub mod SheetLemmas
 pub mod StepLemmas

@@ -15,7 +15,8 @@ ghost use Rattle.desk_model.specs.Stops.{or_stop};
 ghost use Rattle.desk_model.specs.Controls.{controls_of as controls_of_it};
 ghost use Rattle.desk_model.specs.Serial.{plan_effect};
 ghost use Rattle.desk_model.specs.declared.plan.Source.TheVariants.{Removed};
-ghost use Rattle.desk_model.specs.Limits.{records_before, record_count as record_count_of};
+ghost use Rattle.desk_model.specs.Limits.{limits_of, records_before};
+ghost use Rattle.desk_model.specs.Limits.{record_count as record_count_of};
 ghost use Rattle.desk_model.specs.Desk.{effect_at, tests_of};
 ghost use Rattle.desk_plans.specs.Bounds.{IsWithinBounds};
 ghost use Rattle.desk_core.specs.Outcomes.{Comes, IsPut, deed_at, made_effect, planned_effect};
@@ -299,17 +300,39 @@ impl Desk {
             (sight_view sight.now) plan (Ok (Some document))))) }
     {
         let records = self.records + growth(sight.before, &document);
-        if let Some(refusal) = self.limit_passed(sight, lines, records) {
-            return Ok(refusal_outcome(refusal));
+        match self.limit_passed(sight, lines, records) {
+            Some(refusal) => Ok(refusal_outcome(refusal)),
+            None => self.controlled_outcome(alloc, sight, controls, document),
         }
-        match failed_control(
+    }
+
+    // What a document comes to with which no limit is passed.
+    fn controlled_outcome(
+        &self,
+        alloc: Global,
+        sight: &Sight<'_>,
+        controls: &[(u8, u8)],
+        document: Document,
+    ) -> Result<Outcome, Memory>
+        requires seen { IsSightOf self.now.desk.serial (sight_view sight.now) }
+        requires bounds { IsWithinBounds document }
+        ensures { (plan : PlanOf) → plan.doc ≡ document.doc
+            → Suits (sight_view sight.now) plan → IsPut plan.source
+            → controls.now ≡ controls_of_it self.now.desk.setting plan
+            → limits_of self.now.desk.serial (sight_view sight.now) plan (Ok (Some document))
+            ≡ Ok tt
+            → IfOk result (Comes self.now.desk (or_stop (made_effect self.now.desk
+            (sight_view sight.now) plan (Ok (Some document))))) }
+    {
+        let failure = failed_control(
             alloc,
             &self.config,
             &self.store,
             controls,
             sight.before,
             &document,
-        )? {
+        )?;
+        match failure {
             Some(refusal) => Ok(refusal_outcome(refusal)),
             None => Ok(document_outcome(document)),
         }

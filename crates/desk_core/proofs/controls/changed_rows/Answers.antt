@@ -37,7 +37,7 @@ returns c =
     let P : List Booked → Type 0 = λ bs. IfOk c.into_shown.result (λ rows. rows
     ≡ sum_rows 1 None bs) in
     subst P is
-    (c.into_shown.ensures None 1 (back ++ again)
+    (c.into_shown.ensures.rows None 1 (back ++ again)
     ((Adds-both None 1 back again c.new-sums.result c.add_records.new.sums
     c.add_records-2.new.sums (c.in_ok-add_records.ensures 0) (c.in_ok-add_records-2.ensures 0)).sums
     [] (subst (AddsUp None 1 []) (sym c.new-sums.ensures) (AddsUp-nil None 1))))
