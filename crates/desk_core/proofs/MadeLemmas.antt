@@ -29,55 +29,55 @@ doc_in doc (Ok None) = doc
 doc_in doc (Err refusal) = doc
 
 module _ (setting : Setting) (documents : List Document) (before : Option Document) (doc : Doc)
-    where
-  -- a document that is made has the plan's head
-  pub made-own : (source : Source) (d : Document) →
-      document_from setting documents before doc source ≡ Ok (Some d) → doc ≡ d.doc
-  made-own (ByHand given) d e = at (given_by_hand setting.config doc.date given) e
-    where
-      at : (made : Result Sets Refusal) →
-          (made >>= λ sets. Ok (Some (document_of doc sets))) ≡ Ok (Some d) → doc ≡ d.doc
-      at (Ok sets) e = ap (doc_in doc) e
-      at (Err refusal) e = ap (doc_in doc) e
-  made-own ByRules d e = at
-      (yield_of setting.config setting.rules doc (λ register. records_of register documents)) e
-    where
-      at : (made : Result Yield PostFault) → with_yield setting doc made ≡ Ok (Some d) →
-          doc ≡ d.doc
-      at (Ok made) e = ap (doc_in doc) e
-      at (Err fault) e = ap (doc_in doc) e
-  made-own Kept d e = ap (doc_in doc) e
-  made-own Nothing d e = ap (doc_in doc) e
-  made-own Removed d e = ap (doc_in doc) e
+  where
+    -- a document that is made has the plan's head
+    pub made-own : (source : Source) (d : Document) →
+        document_from setting documents before doc source ≡ Ok (Some d) → doc ≡ d.doc
+    made-own (ByHand given) d e = at (given_by_hand setting.config doc.date given) e
+      where
+        at : (made : Result Sets Refusal) →
+            (made >>= λ sets. Ok (Some (document_of doc sets))) ≡ Ok (Some d) → doc ≡ d.doc
+        at (Ok sets) e = ap (doc_in doc) e
+        at (Err refusal) e = ap (doc_in doc) e
+    made-own ByRules d e = at
+        (yield_of setting.config setting.rules doc (λ register. records_of register documents)) e
+      where
+        at : (made : Result Yield PostFault) → with_yield setting doc made ≡ Ok (Some d) →
+            doc ≡ d.doc
+        at (Ok made) e = ap (doc_in doc) e
+        at (Err fault) e = ap (doc_in doc) e
+    made-own Kept d e = ap (doc_in doc) e
+    made-own Nothing d e = ap (doc_in doc) e
+    made-own Removed d e = ap (doc_in doc) e
 
-  -- and it is put
-  pub made-put : (source : Source) (d : Document) →
-      document_from setting documents before doc source ≡ Ok (Some d) → IsPut source
-  made-put (ByHand given) d e = tt
-  made-put ByRules d e = tt
-  made-put Kept d e = tt
-  made-put Nothing d e = tt
-  made-put Removed d e = cc
+    -- and it is put
+    pub made-put : (source : Source) (d : Document) →
+        document_from setting documents before doc source ≡ Ok (Some d) → IsPut source
+    made-put (ByHand given) d e = tt
+    made-put ByRules d e = tt
+    made-put Kept d e = tt
+    made-put Nothing d e = tt
+    made-put Removed d e = cc
 
-  -- where none is made it is removed
-  pub none-removed : (source : Source) →
-      document_from setting documents before doc source ≡ Ok None → source ≡ Removed
-  none-removed (ByHand given) e = at (given_by_hand setting.config doc.date given) e
-    where
-      at : (made : Result Sets Refusal) →
-          (made >>= λ sets. Ok (Some (document_of doc sets))) ≡ Ok None → ByHand given ≡ Removed
-      at (Ok sets) e = cc
-      at (Err refusal) e = cc
-  none-removed ByRules e = at
-      (yield_of setting.config setting.rules doc (λ register. records_of register documents)) e
-    where
-      at : (made : Result Yield PostFault) → with_yield setting doc made ≡ Ok None →
-          ByRules ≡ Removed
-      at (Ok made) e = cc
-      at (Err fault) e = cc
-  none-removed Kept e = cc
-  none-removed Nothing e = cc
-  none-removed Removed e = refl
+    -- where none is made it is removed
+    pub none-removed : (source : Source) →
+        document_from setting documents before doc source ≡ Ok None → source ≡ Removed
+    none-removed (ByHand given) e = at (given_by_hand setting.config doc.date given) e
+      where
+        at : (made : Result Sets Refusal) →
+            (made >>= λ sets. Ok (Some (document_of doc sets))) ≡ Ok None → ByHand given ≡ Removed
+        at (Ok sets) e = cc
+        at (Err refusal) e = cc
+    none-removed ByRules e = at
+        (yield_of setting.config setting.rules doc (λ register. records_of register documents)) e
+      where
+        at : (made : Result Yield PostFault) → with_yield setting doc made ≡ Ok None →
+            ByRules ≡ Removed
+        at (Ok made) e = cc
+        at (Err fault) e = cc
+    none-removed Kept e = cc
+    none-removed Nothing e = cc
+    none-removed Removed e = refl
 
 -- the effect of a plan is that of what it makes
 pub plan-made : (desk : Desk) (meaning : Meaning) (asked : Request) (sight : Sight) (plan : Plan)

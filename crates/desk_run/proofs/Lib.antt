@@ -1,5 +1,6 @@
 pub mod PieceLemmas
 pub mod RunLemmas
+pub mod RuleLemmas
 pub mod RunEnds
 pub mod CallEnds
 pub mod Completeness

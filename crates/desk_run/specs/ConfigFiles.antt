@@ -8,7 +8,6 @@ use Rattle.cfg_model.specs.declared.config.Config.{Config}
 use Rattle.rule_lang.specs.declared.rules.Rules.{Rules as RulesOf}
 use Rattle.desk_model.specs.State.{Setting}
 use Rattle.cfg_model.specs.Reading.{read_config}
-use Rattle.rule_lang.specs.declared.statement.Statement.{Statement}
 use Rattle.rule_lang.specs.declared.fault.RuleFault.{RuleFault}
 use Rattle.rule_lang.specs.Rules.{rules_of}
 use Rattle.desk_run.specs.declared.fault.Fault.{Fault}

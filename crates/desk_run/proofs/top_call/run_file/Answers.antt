@@ -10,6 +10,7 @@ returns-in_err-run_config g c = record {
       (RunsFile-fault _
       (shelf_of g.F.Shelf.files g.F.Shelf.faults c.args.shelf.now)
       (shelf_of g.F.Shelf.files g.F.Shelf.faults c.read_config.new.shelf)
-      _ _ _ c.in_ok-config.config c.in_ok-config.ensures.reads
+      _ _ _ (record { config = c.in_ok-config.config; rules = c.in_ok-config.rules })
+      c.in_ok-config.ensures.reads
       c.in_err-run_config.ensures.runs);
 }
