@@ -14,4 +14,5 @@ pub mod Clerks
 pub mod Reading
 pub mod Resolving
 pub mod Entries
+pub mod AccountTables
 pub mod FaultTexts
