@@ -132,7 +132,8 @@ impl Desk {
     #[tactic(auto, unfolding(desk_model::specs::Serial::change_effect))]
     fn unpost_outcome(&self, alloc: Global, document: &StandingDocument) -> Result<Outcome, Memory>
         ensures { IfOk result
-            (Comes self.now.desk (or_stop (deed_at self.now.desk (RequestIs.Unpost document.now)))) }
+            (Comes self.now.desk
+            (or_stop (deed_at self.now.desk (RequestIs.Unpost document.now)))) }
     {
         let sight = self.sight(Some(document.doc), &None);
         let plan = plan_unpost(alloc, &sight);
