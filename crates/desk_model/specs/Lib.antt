@@ -15,6 +15,8 @@ pub mod Meanings
 pub mod Plans
 pub mod Posts
 pub mod Questions
+pub mod RegisterQuestions
+pub mod LedgerQuestions
 pub mod RecordSets
 pub mod Serial
 pub mod Shown

@@ -203,9 +203,14 @@ balance_and_turnovers_of resources records asked group range method =
 abbrev pub row_limit : ℕ
 row_limit = 100_000
 
+-- rows, where they are no more than a table may have
+abbrev pub within_limit : {R : Type 0} → List R → Result (List R) TableFault
+within_limit rows = do
+  _ ← unless (nat_le (length rows) row_limit) (TooManyRows row_limit)
+  Ok rows
+
 -- a table, where its range begins before its end and it has no more rows than a table may have
 abbrev pub table_of : {R : Type 0} → Range → List R → Result (List R) TableFault
 table_of range rows = do
   _ ← unless (nat_le range.from range.to) (BadRange range.from range.to)
-  _ ← unless (nat_le (length rows) row_limit) (TooManyRows row_limit)
-  Ok rows
+  within_limit rows
