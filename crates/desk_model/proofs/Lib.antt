@@ -15,3 +15,4 @@ pub mod WorkedRows
 pub mod ReplayLemmas
 pub mod ScaleLemmas
 pub mod StepCases
+pub mod TableLemmas

@@ -19,7 +19,9 @@ use Rattle.cfg_model.specs.Places.{register_place}
 use Rattle.desk_words.specs.declared.request.Request.{Request}
 use Rattle.desk_words.specs.declared.request.Request.TheVariants.{Write, Post, Unpost, Mark, Manual}
 use Rattle.desk_words.specs.declared.request.Request.TheVariants.{Activity, Close, Sweep, Balance}
-use Rattle.desk_words.specs.declared.request.Request.TheVariants.{Doc}
+use Rattle.desk_words.specs.declared.request.Request.TheVariants.{Doc, Turnovers, Both, Documents}
+use Rattle.desk_words.specs.declared.request.Request.TheVariants.{AccountBalance, AccountTurnovers}
+use Rattle.desk_words.specs.declared.request.Request.TheVariants.{AccountBoth, DrCr}
 use Rattle.desk_words.specs.declared.request.Post.TheVariants.{Content, Standing}
 use Rattle.desk_words.specs.declared.request.Balance.{Balance as BalanceRequest}
 use Rattle.desk_words.specs.declared.reply.Answer.TheVariants.{Balance as BalanceAnswer}

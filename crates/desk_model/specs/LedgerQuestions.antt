@@ -7,16 +7,16 @@ use Rattle.reg_base.specs.declared.tables.Range.{Range}
 use Rattle.reg_base.specs.declared.fault.TableFault.{TableFault}
 use Rattle.reg_base.specs.Results.{◌>>=◌, unless, some_or}
 use Rattle.reg_base.specs.BookedEntries.{BookedEntry}
-use Rattle.reg_base.specs.Turnovers.{within_limit, table_of}
+use Rattle.reg_base.specs.Turnovers.{limited_rows, table_of}
 use Rattle.cfg_model.specs.declared.config.Config.{Config}
 use Rattle.cfg_model.specs.declared.ledger.Chart.{Chart}
 use Rattle.cfg_model.specs.Places.{ledger_place, account_at}
 use Rattle.cfg_model.specs.AccountTables.{account_balance_of, account_turnovers_of}
 use Rattle.cfg_model.specs.AccountTables.{account_both_of, dr_cr_of}
-use Rattle.desk_words.specs.declared.request.AskedAccounts.{AskedAccounts}
-use Rattle.desk_words.specs.declared.request.AccountBalance.{AccountBalance as BalanceRequest}
-use Rattle.desk_words.specs.declared.request.AccountTurnovers.{AccountTurnovers as TurnoversRequest}
-use Rattle.desk_words.specs.declared.request.DrCr.{DrCr as PairsRequest}
+use Rattle.desk_words.specs.declared.tables.AskedAccounts.{AskedAccounts}
+use Rattle.desk_words.specs.declared.tables.AccountBalance.{AccountBalance as BalanceRequest}
+use Rattle.desk_words.specs.declared.tables.AccountTurnovers.{AccountTurnovers as TurnoversRequest}
+use Rattle.desk_words.specs.declared.tables.DrCr.{DrCr as PairsRequest}
 use Rattle.desk_words.specs.declared.reply.Answer.{Answer}
 use Rattle.desk_words.specs.declared.reply.Answer.TheVariants.{AccountBalance, AccountTurnovers}
 use Rattle.desk_words.specs.declared.reply.Answer.TheVariants.{AccountBoth, DrCr}
@@ -56,7 +56,7 @@ asks_extras accounts = unwrap_or accounts.extras false
 abbrev pub account_balance_table : AskedAccounts → Cut → Chart → List BookedEntry
     → Result Answer TableFault
 account_balance_table accounts cut chart entries =
-    answering (λ rows. AccountBalance rows chart.scale) (within_limit
+    answering (λ rows. AccountBalance rows chart.scale) (limited_rows
     (account_balance_of chart entries accounts.account (asks_extras accounts) cut))
 
 -- what `account_balance` asks

@@ -23,4 +23,5 @@ pub mod Shown
 pub mod State
 pub mod States
 pub mod Stops
+pub mod Tables
 pub mod Writes

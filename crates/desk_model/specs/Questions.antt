@@ -12,11 +12,11 @@ use Rattle.reg_base.specs.declared.fault.TableFault.{TableFault}
 use Rattle.reg_base.specs.Results.{◌>>=◌}
 use Rattle.reg_base.specs.Points.{point_cmp}
 use Rattle.reg_base.specs.Records.{in_order}
-use Rattle.reg_base.specs.Turnovers.{within_limit}
+use Rattle.reg_base.specs.Turnovers.{limited_rows}
 use Rattle.cfg_model.specs.declared.config.Config.{Config}
-use Rattle.desk_words.specs.declared.request.AskedDates.{AskedDates}
+use Rattle.desk_words.specs.declared.tables.AskedDates.{AskedDates}
 use Rattle.desk_words.specs.declared.request.DocQuestion.{DocQuestion as DocRequest}
-use Rattle.desk_words.specs.declared.request.DocumentsQuestion.{DocumentsQuestion}
+use Rattle.desk_words.specs.declared.tables.DocumentsQuestion.{DocumentsQuestion}
 use Rattle.desk_words.specs.declared.reply.Answer.{Answer}
 use Rattle.desk_words.specs.declared.reply.Answer.TheVariants.{Shown, Documents as DocumentsAnswer}
 use Rattle.desk_words.specs.declared.reply.Refusal.{Refusal}
@@ -82,5 +82,5 @@ document_row config d = record {
 -- what `documents` asks: the documents of a range
 abbrev pub question_documents : Config → DocumentsQuestion → Result Question Refusal
 question_documents config q = Ok (about_documents (λ documents.
-    or_refused (answering DocumentsAnswer (within_limit
+    or_refused (answering DocumentsAnswer (limited_rows
     (map (document_row config) (documents_in (range_of q.dates None) documents))))))

@@ -14,17 +14,17 @@ use Rattle.reg_base.specs.declared.fault.TableFault.TheVariants.{UnknownField}
 use Rattle.reg_base.specs.Results.{◌>>=◌, unless, some_or, none_or, each}
 use Rattle.reg_base.specs.Records.{Booked, records_within}
 use Rattle.reg_base.specs.Balances.{sum_rows}
-use Rattle.reg_base.specs.Turnovers.{in_range, turnover_rows, both_rows, within_limit, table_of}
+use Rattle.reg_base.specs.Turnovers.{in_range, turnover_rows, both_rows, limited_rows, table_of}
 use Rattle.cfg_model.specs.declared.config.Config.{Config}
 use Rattle.cfg_model.specs.declared.register.Register.{Register}
 use Rattle.cfg_model.specs.declared.register.Dimension.{Dimension}
 use Rattle.cfg_model.specs.Places.{register_place}
 use Rattle.cfg_model.specs.Asks.{AskedList, wrong_name, filter_with, group_places}
-use Rattle.desk_words.specs.declared.request.AskedRegister.{AskedRegister}
+use Rattle.desk_words.specs.declared.tables.AskedRegister.{AskedRegister}
 use Rattle.desk_words.specs.declared.request.FilterText.{FilterText}
 use Rattle.desk_words.specs.declared.request.Balance.{Balance as BalanceRequest}
-use Rattle.desk_words.specs.declared.request.Turnovers.{Turnovers as TurnoversRequest}
-use Rattle.desk_words.specs.declared.request.Both.{Both as BothRequest}
+use Rattle.desk_words.specs.declared.tables.Turnovers.{Turnovers as TurnoversRequest}
+use Rattle.desk_words.specs.declared.tables.Both.{Both as BothRequest}
 use Rattle.desk_words.specs.declared.reply.Answer.{Answer}
 use Rattle.desk_words.specs.declared.reply.Answer.TheVariants.{Balance as BalanceAnswer}
 use Rattle.desk_words.specs.declared.reply.Answer.TheVariants.{Turnovers as TurnoversAnswer}
@@ -94,7 +94,7 @@ abbrev pub balance_table : Cut → Register → Option (List ℕ) → List Booke
     → Result Answer TableFault
 balance_table cut register group records =
     answering (λ rows. BalanceAnswer rows (scales_of register))
-    (within_limit (sum_rows (length register.resources) group (records_within cut records)))
+    (limited_rows (sum_rows (length register.resources) group (records_within cut records)))
 
 -- what `balance` asks: a register that has balances
 unfoldable pub question_balance : Config → BalanceRequest → Result Question Refusal

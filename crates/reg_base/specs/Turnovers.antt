@@ -204,8 +204,8 @@ abbrev pub row_limit : ℕ
 row_limit = 100_000
 
 -- rows, where they are no more than a table may have
-abbrev pub within_limit : {R : Type 0} → List R → Result (List R) TableFault
-within_limit rows = do
+abbrev pub limited_rows : {R : Type 0} → List R → Result (List R) TableFault
+limited_rows rows = do
   _ ← unless (nat_le (length rows) row_limit) (TooManyRows row_limit)
   Ok rows
 
@@ -213,4 +213,4 @@ within_limit rows = do
 abbrev pub table_of : {R : Type 0} → Range → List R → Result (List R) TableFault
 table_of range rows = do
   _ ← unless (nat_le range.from range.to) (BadRange range.from range.to)
-  within_limit rows
+  limited_rows rows
