@@ -5,14 +5,10 @@ use Rattle.std.specs.List.{find, filter_map}
 use Rattle.std.specs.Str.{bytes_eq}
 use Rattle.reg_base.specs.declared.value.Value.{Value}
 use Rattle.reg_base.specs.declared.records.Filter.{Filter}
+use Rattle.reg_base.specs.declared.tables.AskedList.{AskedList}
 use Rattle.cfg_model.specs.declared.register.Register.{Register}
 use Rattle.cfg_model.specs.declared.register.Dimension.{Dimension}
 use Rattle.cfg_model.specs.Words.{is_one_of}
-
--- the values that the dimension of a name may have
-pub record AskedList : Type 0 where
-  pub name : List ℕ
-  pub values : List Value
 
 -- the place of the first dimension of this name, counted from 0
 abbrev pub dimension_place : List ℕ → List Dimension → Option ℕ

@@ -8,6 +8,7 @@ use Rattle.reg_base.specs.declared.fault.TableFault.{TableFault}
 use Rattle.reg_base.specs.declared.fault.TableFault.TheVariants.{BadRange, TooManyRows, UnknownField}
 use Rattle.reg_base.specs.declared.tables.Range.{Range}
 use Rattle.reg_base.specs.declared.tables.Method.TheVariants.{Movements}
+use Rattle.reg_base.specs.declared.tables.AskedList.{AskedList}
 use Rattle.reg_base.specs.Results.{◌>>=◌, unless, some_or, none_or}
 use Rattle.reg_base.specs.Records.{Booked, records_of, chosen_records}
 use Rattle.reg_base.specs.BookedEntries.{BookedEntry, entries_of}
@@ -15,7 +16,7 @@ use Rattle.reg_base.specs.Turnovers.{limited_rows, table_of, row_limit}
 use Rattle.cfg_model.specs.declared.ledger.Chart.{Chart}
 use Rattle.cfg_model.specs.declared.register.Register.{Register}
 use Rattle.cfg_model.specs.Places.{register_place, ledger_place}
-use Rattle.cfg_model.specs.Asks.{AskedList, wrong_name, filter_with, group_places}
+use Rattle.cfg_model.specs.Asks.{wrong_name, filter_with, group_places}
 use Rattle.desk_words.specs.declared.tables.AskedRegister.{AskedRegister}
 use Rattle.desk_words.specs.declared.request.Balance.{Balance as BalanceRequest}
 use Rattle.desk_words.specs.declared.tables.Turnovers.{Turnovers as TurnoversRequest}
@@ -43,7 +44,7 @@ use Rattle.desk_words.specs.Reading.{request}
 use Rattle.desk_model.specs.State.{Desk, State, Command}
 use Rattle.desk_model.specs.Plans.{Question, Meaning, about_register, about_ledger}
 use Rattle.desk_model.specs.Questions.{answering, or_refused, range_of, question_documents}
-use Rattle.desk_model.specs.Questions.{documents_in, document_row}
+use Rattle.desk_model.specs.Questions.{rows_between}
 use Rattle.desk_model.specs.RegisterQuestions.{question_about, asked_lists, named_table, scales_of}
 use Rattle.desk_model.specs.RegisterQuestions.{question_balance, question_turnovers, question_both}
 use Rattle.desk_model.specs.RegisterQuestions.{balance_table, turnovers_table, both_table}
@@ -382,8 +383,7 @@ documents-table : (desk : Desk) (q : DocumentsQuestion) (answer : Answer)
     → IsDocuments desk q answer
 unfolding question_answer answer_to
 documents-table desk q answer h =
-    let rows = map (document_row desk.setting.config)
-    (documents_in (range_of q.dates None) desk.serial.documents) in
+    let rows = rows_between desk.setting.config (range_of q.dates None) desk.serial.documents in
     let shown = limited-shows AnswerIs.Documents rows answer
     (not_refused (answering AnswerIs.Documents (limited_rows rows)) answer h) in
     record {

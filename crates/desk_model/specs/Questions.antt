@@ -1,8 +1,5 @@
 -- Questions for documents, and what all tables share.
-use Rattle.std.specs.Prelude.{ℕ, ◌&&◌, nat_le, Option, None, option_map, unwrap_or, List, map}
-use Rattle.std.specs.Prelude.{filter, Result, Ok, Err}
-use Rattle.std.specs.declared.cmp.Ordering.{Ordering}
-use Rattle.reg_base.specs.declared.point.Point.{Point}
+use Rattle.std.specs.Prelude.{ℕ, Option, None, option_map, unwrap_or, List, map, Result, Ok, Err}
 use Rattle.reg_base.specs.declared.records.Document.{Document}
 use Rattle.reg_base.specs.declared.records.DocRow.{DocRow}
 use Rattle.reg_base.specs.declared.tables.Periodicity.{Periodicity}
@@ -10,8 +7,7 @@ use Rattle.reg_base.specs.declared.tables.Periodicity.TheVariants.{Period}
 use Rattle.reg_base.specs.declared.tables.Range.{Range}
 use Rattle.reg_base.specs.declared.fault.TableFault.{TableFault}
 use Rattle.reg_base.specs.Results.{◌>>=◌}
-use Rattle.reg_base.specs.Points.{point_cmp}
-use Rattle.reg_base.specs.Records.{in_order}
+use Rattle.reg_base.specs.Documents.{documents_between}
 use Rattle.reg_base.specs.Turnovers.{limited_rows}
 use Rattle.cfg_model.specs.declared.config.Config.{Config}
 use Rattle.desk_words.specs.declared.tables.AskedDates.{AskedDates}
@@ -56,19 +52,6 @@ question_doc config q = Ok (about_document (record {
   answer = λ d. Shown (shown_document config d);
 }))
 
--- the point at which a document stands
-abbrev pub document_point : Document → Point
-document_point d = record { date = d.doc.date; doc = d.doc.number }
-
--- documents are in order of their points
-abbrev pub document_cmp : Document → Document → Ordering
-document_cmp d e = point_cmp (document_point d) (document_point e)
-
--- the documents whose dates are in the range, both ends included, in order of their points
-abbrev pub documents_in : Range → List Document → List Document
-documents_in range documents = in_order document_cmp
-    (filter (λ d. nat_le range.from d.doc.date && nat_le d.doc.date range.to) documents)
-
 -- the row of a document in a list of documents
 abbrev pub document_row : Config → Document → DocRow
 document_row config d = record {
@@ -79,8 +62,13 @@ document_row config d = record {
   state = d.doc.state;
 }
 
+-- the rows of the documents of a range
+abbrev pub rows_between : Config → Range → List Document → List DocRow
+rows_between config range documents =
+    map (document_row config) (documents_between range.from range.to documents)
+
 -- what `documents` asks: the documents of a range
 abbrev pub question_documents : Config → DocumentsQuestion → Result Question Refusal
 question_documents config q = Ok (about_documents (λ documents.
     or_refused (answering DocumentsAnswer (limited_rows
-    (map (document_row config) (documents_in (range_of q.dates None) documents))))))
+    (rows_between config (range_of q.dates None) documents)))))

@@ -11,6 +11,7 @@ use Rattle.reg_base.specs.declared.tables.Method.{Method}
 use Rattle.reg_base.specs.declared.tables.Method.TheVariants.{Movements}
 use Rattle.reg_base.specs.declared.fault.TableFault.{TableFault}
 use Rattle.reg_base.specs.declared.fault.TableFault.TheVariants.{UnknownField}
+use Rattle.reg_base.specs.declared.tables.AskedList.{AskedList}
 use Rattle.reg_base.specs.Results.{◌>>=◌, unless, some_or, none_or, each}
 use Rattle.reg_base.specs.Records.{Booked, records_within}
 use Rattle.reg_base.specs.Balances.{sum_rows}
@@ -19,7 +20,7 @@ use Rattle.cfg_model.specs.declared.config.Config.{Config}
 use Rattle.cfg_model.specs.declared.register.Register.{Register}
 use Rattle.cfg_model.specs.declared.register.Dimension.{Dimension}
 use Rattle.cfg_model.specs.Places.{register_place}
-use Rattle.cfg_model.specs.Asks.{AskedList, wrong_name, filter_with, group_places}
+use Rattle.cfg_model.specs.Asks.{wrong_name, filter_with, group_places}
 use Rattle.desk_words.specs.declared.tables.AskedRegister.{AskedRegister}
 use Rattle.desk_words.specs.declared.request.FilterText.{FilterText}
 use Rattle.desk_words.specs.declared.request.Balance.{Balance as BalanceRequest}

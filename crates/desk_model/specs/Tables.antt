@@ -10,6 +10,7 @@ use Rattle.reg_base.specs.declared.tables.Method.TheVariants.{Movements}
 use Rattle.reg_base.specs.declared.tables.PairRow.{PairRow}
 use Rattle.reg_base.specs.declared.tables.Range.{Range}
 use Rattle.reg_base.specs.declared.tables.Row.{Row}
+use Rattle.reg_base.specs.declared.tables.AskedList.{AskedList}
 use Rattle.reg_base.specs.Records.{records_of}
 use Rattle.reg_base.specs.BookedEntries.{BookedEntry, entries_of}
 use Rattle.reg_base.specs.Balances.{balance_of}
@@ -17,7 +18,7 @@ use Rattle.reg_base.specs.Turnovers.{turnovers_of, balance_and_turnovers_of, row
 use Rattle.cfg_model.specs.declared.ledger.Chart.{Chart}
 use Rattle.cfg_model.specs.declared.register.Register.{Register}
 use Rattle.cfg_model.specs.Places.{register_place, ledger_place}
-use Rattle.cfg_model.specs.Asks.{AskedList, wrong_name, filter_with, group_places}
+use Rattle.cfg_model.specs.Asks.{wrong_name, filter_with, group_places}
 use Rattle.cfg_model.specs.AccountTables.{account_balance_of, account_turnovers_of}
 use Rattle.cfg_model.specs.AccountTables.{account_both_of, dr_cr_of}
 use Rattle.desk_words.specs.declared.tables.AskedRegister.{AskedRegister}
@@ -37,7 +38,7 @@ use Rattle.desk_words.specs.declared.request.Request.TheVariants.{AccountBoth, D
 use Rattle.desk_words.specs.declared.reply.Answer.{Answer}
 use Rattle.desk_words.specs.declared.reply.Answer.TheVariants as AnswerIs
 use Rattle.desk_model.specs.State.{Desk}
-use Rattle.desk_model.specs.Questions.{range_of, documents_in, document_row}
+use Rattle.desk_model.specs.Questions.{range_of, rows_between}
 use Rattle.desk_model.specs.RegisterQuestions.{asked_lists, scales_of}
 use Rattle.desk_model.specs.LedgerQuestions.{has_asked_account, asks_extras}
 
@@ -146,8 +147,8 @@ pub record IsPairs (desk : Desk) (q : PairsRequest) (answer : Answer) : Type 0 w
 -- the answer is the documents of the range
 pub record IsDocuments (desk : Desk) (q : DocumentsQuestion) (answer : Answer) : Type 0 where
   pub rows : List DocRow
-  pub rows_are : rows ≡ map (document_row desk.setting.config)
-      (documents_in (range_of q.dates None) desk.serial.documents)
+  pub rows_are : rows ≡ rows_between desk.setting.config (range_of q.dates None)
+      desk.serial.documents
   pub short : IsShort rows
   pub answer_is : answer ≡ AnswerIs.Documents rows
 

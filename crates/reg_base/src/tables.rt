@@ -2,6 +2,7 @@
 use crate::code::Code;
 use crate::date::Date;
 use crate::list::List;
+use crate::name::Name;
 use crate::point::Point;
 use crate::value::Value;
 
@@ -50,6 +51,13 @@ pub enum Method {
     Movements,
     /// Besides, those of both ends of the range that have a balance.
     MovementsAndPeriodBoundaries,
+}
+
+/// One list of a filter: the values that the dimension of a name may have.
+#[derive(Drop)]
+pub struct AskedList {
+    pub name: Name,
+    pub values: List<Value>,
 }
 
 /// One row of a table of a register: a number per resource, in units at the resource's scale.
