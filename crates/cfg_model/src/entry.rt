@@ -33,6 +33,13 @@ pub fn check_entry(
 }
 
 impl Chart {
+    /// Whether the chart has an account of this code.
+    pub fn has_account(&self, code: &Code) -> bool
+        ensures { result ≡ is_some (at_code code.now self.now.accounts) }
+    {
+        account_at(self.accounts.as_slice(), code).is_some()
+    }
+
     fn account(&self, side: &Side) -> Option<&Account>
         ensures { option_map (λ a. a.now) result ≡ at_code side.now.account self.now.accounts }
     {

@@ -191,7 +191,7 @@ module _ (desk : Desk) (r : Request) where
       (question_effect desk.serial question))
   unfolding question_effect
   question-stays clerk question known allowed =
-      at known allowed (question_answer desk.serial question)
+      at known allowed (question_answer desk.serial.documents question)
     where
       at : (known allowed : Bool) (answer : Result Answer Refusal) →
           Stays desk (event_by desk (asking clerk question) r known allowed (Ok tt)

@@ -160,7 +160,7 @@ module _ (desk : Desk) (asked : AskedRegister) (has_table : Register → Bool)
       → (has : Bool) → has_table register ≡ has → (read : Result (List AskedList) Refusal)
       → asked_lists register asked.filter ≡ read
       → ((unless has (BadField RegisterField) >>= λ _. read >>= λ lists.
-      Ok (about place register lists)) >>= answer_to desk.serial) ≡ Ok answer
+      Ok (about place register lists)) >>= answer_to desk.serial.documents) ≡ Ok answer
       → AnswersAbout desk asked has_table table answer
   unfolding records about answer_to
   at_register place register named found true has (Ok lists) read h =
@@ -174,7 +174,7 @@ module _ (desk : Desk) (asked : AskedRegister) (has_table : Register → Bool)
       → ((some_or found (BadField RegisterField) >>= λ register.
       unless (has_table register) (BadField RegisterField) >>= λ _.
       asked_lists register asked.filter >>= λ lists. Ok (about place register lists))
-      >>= answer_to desk.serial) ≡ Ok answer → AnswersAbout desk asked has_table table answer
+      >>= answer_to desk.serial.documents) ≡ Ok answer → AnswersAbout desk asked has_table table answer
   unfolding about
   at_place place named (Some register) found h =
       at_register place register named found (has_table register) refl
@@ -186,13 +186,13 @@ module _ (desk : Desk) (asked : AskedRegister) (has_table : Register → Bool)
       some_or (slice_get desk.setting.config.registers p) (BadField RegisterField) >>= λ register.
       unless (has_table register) (BadField RegisterField) >>= λ _.
       asked_lists register asked.filter >>= λ lists. Ok (about p register lists))
-      >>= answer_to desk.serial) ≡ Ok answer → AnswersAbout desk asked has_table table answer
+      >>= answer_to desk.serial.documents) ≡ Ok answer → AnswersAbout desk asked has_table table answer
   unfolding about
   at_name (Some place) named h =
       at_place place named (slice_get desk.setting.config.registers place) refl h
   at_name None named h = absurd (cc)
 
-  about-answers : question_answer desk.serial
+  about-answers : question_answer desk.serial.documents
       (question_about desk.setting.config asked has_table table) ≡ Ok answer
       → AnswersAbout desk asked has_table table answer
   unfolding about question_answer question_about
@@ -219,7 +219,7 @@ module _ (desk : Desk) (ledger : List ℕ) (account : Option (List ℕ))
       → slice_get desk.setting.config.ledgers place ≡ Some chart
       → (has : Bool) → has_asked_account chart account ≡ has
       → ((unless has (BadField AccountField) >>= λ _. Ok (on place chart))
-      >>= answer_to desk.serial) ≡ Ok answer → AnswersOn desk ledger account table answer
+      >>= answer_to desk.serial.documents) ≡ Ok answer → AnswersOn desk ledger account table answer
   unfolding on answer_to
   at_chart place chart named found true has h = record {
     asks = record { place = place; chart = chart; named = named; found = found; has = has };
@@ -231,7 +231,7 @@ module _ (desk : Desk) (ledger : List ℕ) (account : Option (List ℕ))
       → (found : Option Chart) → slice_get desk.setting.config.ledgers place ≡ found
       → ((some_or found (BadField LedgerField) >>= λ chart.
       unless (has_asked_account chart account) (BadField AccountField) >>= λ _.
-      Ok (on place chart)) >>= answer_to desk.serial) ≡ Ok answer
+      Ok (on place chart)) >>= answer_to desk.serial.documents) ≡ Ok answer
       → AnswersOn desk ledger account table answer
   unfolding on
   at_ledger place named (Some chart) found h =
@@ -242,14 +242,14 @@ module _ (desk : Desk) (ledger : List ℕ) (account : Option (List ℕ))
       → ((some_or place (BadField LedgerField) >>= λ p.
       some_or (slice_get desk.setting.config.ledgers p) (BadField LedgerField) >>= λ chart.
       unless (has_asked_account chart account) (BadField AccountField) >>= λ _.
-      Ok (on p chart)) >>= answer_to desk.serial) ≡ Ok answer
+      Ok (on p chart)) >>= answer_to desk.serial.documents) ≡ Ok answer
       → AnswersOn desk ledger account table answer
   unfolding on
   at_ledger_name (Some place) named h =
       at_ledger place named (slice_get desk.setting.config.ledgers place) refl h
   at_ledger_name None named h = absurd (cc)
 
-  on-answers : question_answer desk.serial
+  on-answers : question_answer desk.serial.documents
       (question_on desk.setting.config ledger account table) ≡ Ok answer
       → AnswersOn desk ledger account table answer
   unfolding on question_answer question_on
@@ -258,7 +258,7 @@ module _ (desk : Desk) (ledger : List ℕ) (account : Option (List ℕ))
 -- ---- each table
 
 balance-table : (desk : Desk) (b : BalanceRequest) (answer : Answer)
-    → question_answer desk.serial (question_balance desk.setting.config b) ≡ Ok answer
+    → question_answer desk.serial.documents (question_balance desk.setting.config b) ≡ Ok answer
     → IsBalance desk b answer
 unfolding question_balance
 balance-table desk b answer h =
@@ -275,7 +275,7 @@ balance-table desk b answer h =
     }
 
 turnovers-table : (desk : Desk) (t : TurnoversRequest) (answer : Answer)
-    → question_answer desk.serial (question_turnovers desk.setting.config t) ≡ Ok answer
+    → question_answer desk.serial.documents (question_turnovers desk.setting.config t) ≡ Ok answer
     → IsTurnovers desk t answer
 unfolding question_turnovers
 turnovers-table desk t answer h =
@@ -293,7 +293,7 @@ turnovers-table desk t answer h =
     }
 
 both-table : (desk : Desk) (b : BothRequest) (answer : Answer)
-    → question_answer desk.serial (question_both desk.setting.config b) ≡ Ok answer
+    → question_answer desk.serial.documents (question_both desk.setting.config b) ≡ Ok answer
     → IsBoth desk b answer
 unfolding question_both
 both-table desk b answer h =
@@ -311,7 +311,7 @@ both-table desk b answer h =
     }
 
 account_balance-table : (desk : Desk) (b : AccountBalanceRequest) (answer : Answer)
-    → question_answer desk.serial (question_account_balance desk.setting.config b) ≡ Ok answer
+    → question_answer desk.serial.documents (question_account_balance desk.setting.config b) ≡ Ok answer
     → IsAccountBalance desk b answer
 unfolding question_account_balance
 account_balance-table desk b answer h =
@@ -328,7 +328,7 @@ account_balance-table desk b answer h =
     }
 
 account_turnovers-table : (desk : Desk) (t : AccountRequest) (answer : Answer)
-    → question_answer desk.serial (question_account_turnovers desk.setting.config t) ≡ Ok answer
+    → question_answer desk.serial.documents (question_account_turnovers desk.setting.config t) ≡ Ok answer
     → IsAccountTurnovers desk t answer
 unfolding question_account_turnovers
 account_turnovers-table desk t answer h =
@@ -345,7 +345,7 @@ account_turnovers-table desk t answer h =
     }
 
 account_both-table : (desk : Desk) (t : AccountRequest) (answer : Answer)
-    → question_answer desk.serial (question_account_both desk.setting.config t) ≡ Ok answer
+    → question_answer desk.serial.documents (question_account_both desk.setting.config t) ≡ Ok answer
     → IsAccountBoth desk t answer
 unfolding question_account_both
 account_both-table desk t answer h =
@@ -362,7 +362,7 @@ account_both-table desk t answer h =
     }
 
 pairs-table : (desk : Desk) (q : PairsRequest) (answer : Answer)
-    → question_answer desk.serial (question_pairs desk.setting.config q) ≡ Ok answer
+    → question_answer desk.serial.documents (question_pairs desk.setting.config q) ≡ Ok answer
     → IsPairs desk q answer
 unfolding question_pairs
 pairs-table desk q answer h =
@@ -379,7 +379,7 @@ pairs-table desk q answer h =
     }
 
 documents-table : (desk : Desk) (q : DocumentsQuestion) (answer : Answer)
-    → question_answer desk.serial (question_documents desk.setting.config q) ≡ Ok answer
+    → question_answer desk.serial.documents (question_documents desk.setting.config q) ≡ Ok answer
     → IsDocuments desk q answer
 unfolding question_answer answer_to
 documents-table desk q answer h =
@@ -412,12 +412,12 @@ step-answers : (desk : Desk) (r : Request) (answer : Answer) (question : Result 
     (unless (is_clerk desk.setting.config (meaning_at desk r).clerk) (refuses UnknownClerk)
     >>= λ _. unless (is_allowed desk.setting.config (meaning_at desk r).clerk
     (meaning_at desk r).right) (refuses (NotAllowed (meaning_at desk r).right)) >>= λ _.
-    or_stop (question_answer desk.serial question
+    or_stop (question_answer desk.serial.documents question
     >>= λ a. Ok (answer_effect desk.serial a)))).reply
-    → (step desk r).reply ≡ Done answer → question_answer desk.serial question ≡ Ok answer
+    → (step desk r).reply ≡ Done answer → question_answer desk.serial.documents question ≡ Ok answer
 step-answers desk r answer question is h =
     answered-by desk (meaning_at desk r) (command_at desk r) _ _
-    (question_answer desk.serial question) answer (sym is ∙ h)
+    (question_answer desk.serial.documents question) answer (sym is ∙ h)
 
 step-table : (desk : Desk) (r : Request) (answer : Answer) → (step desk r).reply ≡ Done answer
     → IsTable desk r answer

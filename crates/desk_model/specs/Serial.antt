@@ -74,26 +74,26 @@ answer_effect state answer = record {
   answer = answer;
 }
 
--- what a question is answered, from the records, the entries or the documents that it is about
-unfoldable pub answer_to : State → Question → Result Answer Refusal
-answer_to state (about_register q) =
-    q.answer (chosen_records q.asked (records_of q.register state.documents))
-answer_to state (about_ledger q) = q.answer (entries_of q.ledger state.documents)
-answer_to state (about_document q) = do
-  d ← some_or (document_at q.doc state.documents) UnknownDoc
+-- what a question is answered over documents: from their records, their entries or themselves
+unfoldable pub answer_to : List Document → Question → Result Answer Refusal
+answer_to documents (about_register q) =
+    q.answer (chosen_records q.asked (records_of q.register documents))
+answer_to documents (about_ledger q) = q.answer (entries_of q.ledger documents)
+answer_to documents (about_document q) = do
+  d ← some_or (document_at q.doc documents) UnknownDoc
   Ok (q.answer d)
-answer_to state (about_documents answer) = answer state.documents
+answer_to documents (about_documents answer) = answer documents
 
 -- what is answered where a question can be asked
-unfoldable pub question_answer : State → Result Question Refusal → Result Answer Refusal
-question_answer state question = do
+unfoldable pub question_answer : List Document → Result Question Refusal → Result Answer Refusal
+question_answer documents question = do
   q ← question
-  answer_to state q
+  answer_to documents q
 
 -- the effect of a question
 unfoldable pub question_effect : State → Result Question Refusal → Result Effect Refusal
 question_effect state question = do
-  answer ← question_answer state question
+  answer ← question_answer state.documents question
   Ok (answer_effect state answer)
 
 -- ---- commands

@@ -36,6 +36,7 @@ pub use counts::record_count;
 pub use documents::document_from;
 pub use given::wrong;
 pub use manual::plan_manual;
+pub use part::value_in;
 pub use plans::{plan_activity, plan_mark, plan_sweep, plan_write};
 pub use posts::{plan_post, plan_standing, plan_unpost};
 pub use shown::shown_document;

@@ -49,6 +49,15 @@ impl Date {
         Date { seconds: 0 }
     }
 
+    /// The last date, 2099-12-31T23:59:59.
+    pub fn last() -> Date
+        ensures { result ≡ 3_155_759_999 }
+    {
+        Date {
+            seconds: CENTURY_SECONDS - 1,
+        }
+    }
+
     /// The date so many seconds after the first one, where it lies in the century.
     pub fn from_seconds(seconds: u32) -> Option<Date>
         ensures { SomeIff result (seconds < 3_155_760_000) seconds }
