@@ -1,5 +1,5 @@
 //! Whether a chart of accounts accepts an entry.
-ghost use Rattle.std.specs.Prelude.{◌≡◌, option_map};
+ghost use Rattle.std.specs.Prelude.{◌≡◌, is_some, option_map};
 ghost use Rattle.std.specs.List.{list_any};
 ghost use Rattle.cfg_model.specs.Places.{account_at as at_code};
 ghost use Rattle.cfg_model.specs.Entries.{entry_check, of_side, has_account, is_leaf, has_extras};

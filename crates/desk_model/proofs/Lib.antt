@@ -16,3 +16,4 @@ pub mod ReplayLemmas
 pub mod ScaleLemmas
 pub mod StepCases
 pub mod TableLemmas
+pub mod TableScales

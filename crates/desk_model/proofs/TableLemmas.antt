@@ -47,12 +47,12 @@ use Rattle.desk_model.specs.Questions.{answering, or_refused, range_of, question
 use Rattle.desk_model.specs.Questions.{rows_between}
 use Rattle.desk_model.specs.RegisterQuestions.{question_about, asked_lists, named_table, scales_of}
 use Rattle.desk_model.specs.RegisterQuestions.{question_balance, question_turnovers, question_both}
-use Rattle.desk_model.specs.RegisterQuestions.{balance_table, turnovers_table, both_table}
+use Rattle.desk_model.specs.RegisterQuestions.{balance_answer, turnovers_answer, both_answer}
 use Rattle.desk_model.specs.LedgerQuestions.{question_on, has_asked_account, asks_extras}
 use Rattle.desk_model.specs.LedgerQuestions.{question_account_balance, question_account_turnovers}
 use Rattle.desk_model.specs.LedgerQuestions.{question_account_both, question_pairs}
-use Rattle.desk_model.specs.LedgerQuestions.{account_balance_table, account_turnovers_table}
-use Rattle.desk_model.specs.LedgerQuestions.{account_both_table, pairs_table}
+use Rattle.desk_model.specs.LedgerQuestions.{account_balance_answer, account_turnovers_answer}
+use Rattle.desk_model.specs.LedgerQuestions.{account_both_answer, pairs_answer}
 use Rattle.desk_model.specs.Stops.{refuses, or_stop}
 use Rattle.desk_model.specs.Serial.{answer_effect, answer_to, question_answer, question_effect}
 use Rattle.desk_model.specs.Serial.{effect_of}
@@ -263,7 +263,7 @@ balance-table : (desk : Desk) (b : BalanceRequest) (answer : Answer)
 unfolding question_balance
 balance-table desk b answer h =
     let a = about-answers desk b.register (λ register. register.balance)
-    (balance_table (unwrap_or b.cut Now)) answer h in
+    (balance_answer (unwrap_or b.cut Now)) answer h in
     let shown = limited-shows (λ rows. AnswerIs.Balance rows (scales_of a.asks.register)) _ answer
     a.answered in
     record {
@@ -280,7 +280,7 @@ turnovers-table : (desk : Desk) (t : TurnoversRequest) (answer : Answer)
 unfolding question_turnovers
 turnovers-table desk t answer h =
     let a = about-answers desk t.register (λ register. true)
-    (turnovers_table (range_of t.dates t.by)) answer h in
+    (turnovers_answer (range_of t.dates t.by)) answer h in
     let shown = table-shows (range_of t.dates t.by)
     (λ rows. AnswerIs.Turnovers a.asks.register.balance rows (scales_of a.asks.register)) _ answer
     a.answered in
@@ -299,7 +299,7 @@ unfolding question_both
 both-table desk b answer h =
     let range = range_of b.turnovers.dates b.turnovers.by in
     let a = about-answers desk b.turnovers.register (λ register. register.balance)
-    (both_table (unwrap_or b.method Movements) range) answer h in
+    (both_answer (unwrap_or b.method Movements) range) answer h in
     let shown = table-shows range (λ rows. AnswerIs.Both rows (scales_of a.asks.register)) _ answer
     a.answered in
     record {
@@ -316,7 +316,7 @@ account_balance-table : (desk : Desk) (b : AccountBalanceRequest) (answer : Answ
 unfolding question_account_balance
 account_balance-table desk b answer h =
     let a = on-answers desk b.accounts.ledger b.accounts.account
-    (account_balance_table b.accounts (unwrap_or b.cut Now)) answer h in
+    (account_balance_answer b.accounts (unwrap_or b.cut Now)) answer h in
     let shown = limited-shows (λ rows. AnswerIs.AccountBalance rows a.asks.chart.scale) _ answer
     a.answered in
     record {
@@ -333,7 +333,7 @@ account_turnovers-table : (desk : Desk) (t : AccountRequest) (answer : Answer)
 unfolding question_account_turnovers
 account_turnovers-table desk t answer h =
     let a = on-answers desk t.accounts.ledger t.accounts.account
-    (account_turnovers_table t.accounts (range_of t.dates t.by)) answer h in
+    (account_turnovers_answer t.accounts (range_of t.dates t.by)) answer h in
     let shown = table-shows (range_of t.dates t.by)
     (λ rows. AnswerIs.AccountTurnovers rows a.asks.chart.scale) _ answer a.answered in
     record {
@@ -350,7 +350,7 @@ account_both-table : (desk : Desk) (t : AccountRequest) (answer : Answer)
 unfolding question_account_both
 account_both-table desk t answer h =
     let a = on-answers desk t.accounts.ledger t.accounts.account
-    (account_both_table t.accounts (range_of t.dates t.by)) answer h in
+    (account_both_answer t.accounts (range_of t.dates t.by)) answer h in
     let shown = table-shows (range_of t.dates t.by)
     (λ rows. AnswerIs.AccountBoth rows a.asks.chart.scale) _ answer a.answered in
     record {
@@ -367,7 +367,7 @@ pairs-table : (desk : Desk) (q : PairsRequest) (answer : Answer)
 unfolding question_pairs
 pairs-table desk q answer h =
     let a = on-answers desk q.ledger q.account
-    (pairs_table q.account (range_of q.dates None)) answer h in
+    (pairs_answer q.account (range_of q.dates None)) answer h in
     let shown = table-shows (range_of q.dates None)
     (λ rows. AnswerIs.DrCr rows a.asks.chart.scale) _ answer a.answered in
     record {

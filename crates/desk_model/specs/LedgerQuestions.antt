@@ -53,9 +53,9 @@ asks_extras accounts = unwrap_or accounts.extras false
 -- ---- the tables
 
 -- the balances of accounts at a cut
-abbrev pub account_balance_table : AskedAccounts → Cut → Chart → List BookedEntry
+abbrev pub account_balance_answer : AskedAccounts → Cut → Chart → List BookedEntry
     → Result Answer TableFault
-account_balance_table accounts cut chart entries =
+account_balance_answer accounts cut chart entries =
     answering (λ rows. AccountBalance rows chart.scale) (limited_rows
     (account_balance_of chart entries accounts.account (asks_extras accounts) cut))
 
@@ -63,12 +63,12 @@ account_balance_table accounts cut chart entries =
 unfoldable pub question_account_balance : Config → BalanceRequest → Result Question Refusal
 question_account_balance config b =
     question_on config b.accounts.ledger b.accounts.account
-    (account_balance_table b.accounts (unwrap_or b.cut Now))
+    (account_balance_answer b.accounts (unwrap_or b.cut Now))
 
 -- the turnovers of accounts in a range
-abbrev pub account_turnovers_table : AskedAccounts → Range → Chart → List BookedEntry
+abbrev pub account_turnovers_answer : AskedAccounts → Range → Chart → List BookedEntry
     → Result Answer TableFault
-account_turnovers_table accounts range chart entries =
+account_turnovers_answer accounts range chart entries =
     answering (λ rows. AccountTurnovers rows chart.scale) (table_of range
     (account_turnovers_of chart entries accounts.account (asks_extras accounts) range))
 
@@ -76,12 +76,12 @@ account_turnovers_table accounts range chart entries =
 unfoldable pub question_account_turnovers : Config → TurnoversRequest → Result Question Refusal
 question_account_turnovers config t =
     question_on config t.accounts.ledger t.accounts.account
-    (account_turnovers_table t.accounts (range_of t.dates t.by))
+    (account_turnovers_answer t.accounts (range_of t.dates t.by))
 
 -- the balances and turnovers of accounts in a range
-abbrev pub account_both_table : AskedAccounts → Range → Chart → List BookedEntry
+abbrev pub account_both_answer : AskedAccounts → Range → Chart → List BookedEntry
     → Result Answer TableFault
-account_both_table accounts range chart entries =
+account_both_answer accounts range chart entries =
     answering (λ rows. AccountBoth rows chart.scale) (table_of range
     (account_both_of chart entries accounts.account (asks_extras accounts) range))
 
@@ -89,16 +89,16 @@ account_both_table accounts range chart entries =
 unfoldable pub question_account_both : Config → TurnoversRequest → Result Question Refusal
 question_account_both config t =
     question_on config t.accounts.ledger t.accounts.account
-    (account_both_table t.accounts (range_of t.dates t.by))
+    (account_both_answer t.accounts (range_of t.dates t.by))
 
 -- the sums of a range by pairs of accounts
-abbrev pub pairs_table : Option (List ℕ) → Range → Chart → List BookedEntry
+abbrev pub pairs_answer : Option (List ℕ) → Range → Chart → List BookedEntry
     → Result Answer TableFault
-pairs_table account range chart entries =
+pairs_answer account range chart entries =
     answering (λ rows. DrCr rows chart.scale)
     (table_of range (dr_cr_of chart entries account range))
 
 -- what `dr_cr` asks
 unfoldable pub question_pairs : Config → PairsRequest → Result Question Refusal
 question_pairs config q =
-    question_on config q.ledger q.account (pairs_table q.account (range_of q.dates None))
+    question_on config q.ledger q.account (pairs_answer q.account (range_of q.dates None))

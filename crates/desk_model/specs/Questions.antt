@@ -1,5 +1,5 @@
 -- Questions for documents, and what all tables share.
-use Rattle.std.specs.Prelude.{ℕ, Option, None, option_map, unwrap_or, List, map, Result, Ok, Err}
+use Rattle.std.specs.Prelude.{ℕ, ⊤, Option, None, option_map, unwrap_or, List, map, Result, Ok, Err}
 use Rattle.reg_base.specs.declared.records.Document.{Document}
 use Rattle.reg_base.specs.declared.records.DocRow.{DocRow}
 use Rattle.reg_base.specs.declared.tables.Periodicity.{Periodicity}
@@ -14,7 +14,10 @@ use Rattle.desk_words.specs.declared.tables.AskedDates.{AskedDates}
 use Rattle.desk_words.specs.declared.request.DocQuestion.{DocQuestion as DocRequest}
 use Rattle.desk_words.specs.declared.tables.DocumentsQuestion.{DocumentsQuestion}
 use Rattle.desk_words.specs.declared.reply.Answer.{Answer}
-use Rattle.desk_words.specs.declared.reply.Answer.TheVariants.{Shown, Documents as DocumentsAnswer}
+use Rattle.desk_words.specs.declared.reply.Answer.TheVariants.{Acknowledged, Balance, Turnovers}
+use Rattle.desk_words.specs.declared.reply.Answer.TheVariants.{Both, AccountBalance, DrCr, Shown}
+use Rattle.desk_words.specs.declared.reply.Answer.TheVariants.{AccountTurnovers, AccountBoth}
+use Rattle.desk_words.specs.declared.reply.Answer.TheVariants.{Documents}
 use Rattle.desk_words.specs.declared.reply.Refusal.{Refusal}
 use Rattle.desk_words.specs.declared.reply.Refusal.TheVariants.{Table}
 use Rattle.desk_model.specs.Plans.{Question, about_document, about_documents}
@@ -33,6 +36,19 @@ range_of dates by = record {
   to = unwrap_or dates.to last_date;
   by = unwrap_or by Period;
 }
+
+-- the answer to a question: nothing is acknowledged
+abbrev pub IsAnswer : Answer → Type 0
+IsAnswer (Acknowledged acknowledgement) = ⊥
+IsAnswer (Balance rows scales) = ⊤
+IsAnswer (Turnovers balances rows scales) = ⊤
+IsAnswer (Both rows scales) = ⊤
+IsAnswer (AccountBalance rows scale) = ⊤
+IsAnswer (AccountTurnovers rows scale) = ⊤
+IsAnswer (AccountBoth rows scale) = ⊤
+IsAnswer (DrCr rows scale) = ⊤
+IsAnswer (Documents rows) = ⊤
+IsAnswer (Shown document) = ⊤
 
 -- what rows answer
 abbrev pub answering : {R : Type 0} → (R → Answer) → Result R TableFault → Result Answer TableFault
@@ -70,5 +86,5 @@ rows_between config range documents =
 -- what `documents` asks: the documents of a range
 abbrev pub question_documents : Config → DocumentsQuestion → Result Question Refusal
 question_documents config q = Ok (about_documents (λ documents.
-    or_refused (answering DocumentsAnswer (limited_rows
+    or_refused (answering Documents (limited_rows
     (rows_between config (range_of q.dates None) documents)))))

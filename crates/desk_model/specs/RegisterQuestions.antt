@@ -91,9 +91,9 @@ scales_of register = map (λ r. r.scale) register.resources
 -- ---- the tables
 
 -- a balance at a cut
-abbrev pub balance_table : Cut → Register → Option (List ℕ) → List Booked
+abbrev pub balance_answer : Cut → Register → Option (List ℕ) → List Booked
     → Result Answer TableFault
-balance_table cut register group records =
+balance_answer cut register group records =
     answering (λ rows. BalanceAnswer rows (scales_of register))
     (limited_rows (sum_rows (length register.resources) group (records_within cut records)))
 
@@ -101,12 +101,12 @@ balance_table cut register group records =
 unfoldable pub question_balance : Config → BalanceRequest → Result Question Refusal
 question_balance config b =
     question_about config b.register (λ register. register.balance)
-    (balance_table (unwrap_or b.cut Now))
+    (balance_answer (unwrap_or b.cut Now))
 
 -- the turnovers of a range
-abbrev pub turnovers_table : Range → Register → Option (List ℕ) → List Booked
+abbrev pub turnovers_answer : Range → Register → Option (List ℕ) → List Booked
     → Result Answer TableFault
-turnovers_table range register group records =
+turnovers_answer range register group records =
     answering (λ rows. TurnoversAnswer register.balance rows (scales_of register))
     (table_of range (turnover_rows register.balance (length register.resources) group range.by
     (in_range range records)))
@@ -114,12 +114,12 @@ turnovers_table range register group records =
 -- what `turnovers` asks: any register
 unfoldable pub question_turnovers : Config → TurnoversRequest → Result Question Refusal
 question_turnovers config t =
-    question_about config t.register (λ _. true) (turnovers_table (range_of t.dates t.by))
+    question_about config t.register (λ _. true) (turnovers_answer (range_of t.dates t.by))
 
 -- balances and turnovers of a range
-abbrev pub both_table : Method → Range → Register → Option (List ℕ) → List Booked
+abbrev pub both_answer : Method → Range → Register → Option (List ℕ) → List Booked
     → Result Answer TableFault
-both_table method range register group records =
+both_answer method range register group records =
     answering (λ rows. BothAnswer rows (scales_of register))
     (table_of range (both_rows (length register.resources) group range method records))
 
@@ -127,4 +127,4 @@ both_table method range register group records =
 unfoldable pub question_both : Config → BothRequest → Result Question Refusal
 question_both config b =
     question_about config b.turnovers.register (λ register. register.balance)
-    (both_table (unwrap_or b.method Movements) (range_of b.turnovers.dates b.turnovers.by))
+    (both_answer (unwrap_or b.method Movements) (range_of b.turnovers.dates b.turnovers.by))

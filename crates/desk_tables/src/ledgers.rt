@@ -6,6 +6,7 @@ ghost use Rattle.reg_base.specs.Tries.{Tries};
 ghost use Rattle.desk_model.specs.LedgerQuestions.{question_account_balance};
 ghost use Rattle.desk_model.specs.LedgerQuestions.{question_account_turnovers};
 ghost use Rattle.desk_model.specs.LedgerQuestions.{question_account_both, question_pairs};
+ghost use Rattle.desk_model.specs.Questions.{IsAnswer};
 ghost use Rattle.desk_model.specs.Serial.{question_answer};
 ghost use Rattle.desk_tables.specs.Asked.{ask_with};
 
@@ -28,8 +29,9 @@ pub fn answer_account_balance(
 ) -> Tried<Answer>
     requires few { length documents < 2 ^ 32 }
     requires short { All HasShortSets documents }
-    ensures { Tries result (question_answer documents.entry
+    ensures value { Tries result (question_answer documents.entry
         (question_account_balance config.now question.now)) }
+    ensures answer { IfOk result IsAnswer }
 {
     let accounts = &question.accounts;
     let asking = ledger_asked(config, &accounts.ledger, &accounts.account)?;
@@ -51,8 +53,9 @@ pub fn answer_account_turnovers(
 ) -> Tried<Answer>
     requires few { length documents < 2 ^ 32 }
     requires short { All HasShortSets documents }
-    ensures { Tries result (question_answer documents.entry
+    ensures value { Tries result (question_answer documents.entry
         (question_account_turnovers config.now question.now)) }
+    ensures answer { IfOk result IsAnswer }
 {
     let accounts = &question.accounts;
     let asking = ledger_asked(config, &accounts.ledger, &accounts.account)?;
@@ -74,8 +77,9 @@ pub fn answer_account_both(
 ) -> Tried<Answer>
     requires few { length documents < 2 ^ 32 }
     requires short { All HasShortSets documents }
-    ensures { Tries result (question_answer documents.entry
+    ensures value { Tries result (question_answer documents.entry
         (question_account_both config.now question.now)) }
+    ensures answer { IfOk result IsAnswer }
 {
     let accounts = &question.accounts;
     let asking = ledger_asked(config, &accounts.ledger, &accounts.account)?;
@@ -97,8 +101,9 @@ pub fn answer_pairs(
 ) -> Tried<Answer>
     requires few { length documents < 2 ^ 32 }
     requires short { All HasShortSets documents }
-    ensures { Tries result (question_answer documents.entry
+    ensures value { Tries result (question_answer documents.entry
         (question_pairs config.now question.now)) }
+    ensures answer { IfOk result IsAnswer }
 {
     let asking = ledger_asked(config, &question.ledger, &question.account)?;
     let ask = AccountAsk {

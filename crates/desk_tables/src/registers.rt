@@ -7,6 +7,7 @@ ghost use Rattle.desk_model.specs.Questions.{range_of as range_of_dates};
 ghost use Rattle.desk_model.specs.RegisterQuestions.{scales_of as scales_of_register};
 ghost use Rattle.desk_model.specs.RegisterQuestions.{question_balance, question_turnovers};
 ghost use Rattle.desk_model.specs.RegisterQuestions.{question_both};
+ghost use Rattle.desk_model.specs.Questions.{IsAnswer};
 ghost use Rattle.desk_model.specs.Serial.{question_answer};
 
 use crate::asked::{asking, refused};
@@ -27,8 +28,9 @@ pub fn answer_balance(
 ) -> Tried<Answer>
     requires few { length documents < 2 ^ 32 }
     requires short { All HasShortSets documents }
-    ensures { Tries result (question_answer documents.entry
+    ensures value { Tries result (question_answer documents.entry
         (question_balance config.now question.now)) }
+    ensures answer { IfOk result IsAnswer }
 {
     let asking = asking(alloc, config, &question.register, true)?;
     let cut = question.cut.unwrap_or(Cut::Now);
@@ -46,8 +48,9 @@ pub fn answer_turnovers(
 ) -> Tried<Answer>
     requires few { length documents < 2 ^ 32 }
     requires short { All HasShortSets documents }
-    ensures { Tries result (question_answer documents.entry
+    ensures value { Tries result (question_answer documents.entry
         (question_turnovers config.now question.now)) }
+    ensures answer { IfOk result IsAnswer }
 {
     let asking = asking(alloc, config, &question.register, false)?;
     let range = range_of(&question.dates, &question.by);
@@ -69,7 +72,8 @@ pub fn answer_both(
 ) -> Tried<Answer>
     requires few { length documents < 2 ^ 32 }
     requires short { All HasShortSets documents }
-    ensures { Tries result (question_answer documents.entry (question_both config.now question.now)) }
+    ensures value { Tries result (question_answer documents.entry (question_both config.now question.now)) }
+    ensures answer { IfOk result IsAnswer }
 {
     let asked = &question.turnovers;
     let asking = asking(alloc, config, &asked.register, true)?;
