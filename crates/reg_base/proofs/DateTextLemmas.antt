@@ -15,8 +15,8 @@ use Rattle.jiff_core.proofs.CalendarLemmas.{days_in_month_bounds}
 use Rattle.reg_base.specs.declared.day.Day.{Day}
 use Rattle.reg_base.specs.Numbers.{decimal_value, last_digits}
 use Rattle.reg_base.specs.Dates.{number_between, day_spelt, second_spelt, date_of, parse_long_date}
-use Rattle.reg_base.specs.Dates.{parse_date, day_from_month, day_from_year, day_of, day_text}
-use Rattle.reg_base.specs.Dates.{second_text, date_text}
+use Rattle.reg_base.specs.Dates.{parse_date, parse_date_end, day_from_month, day_from_year, day_of}
+use Rattle.reg_base.specs.Dates.{day_text, second_text, date_text}
 use Rattle.reg_base.proofs.DigitLemmas.{all_digits-last_digits, read_on-last_digits}
 use Rattle.reg_base.proofs.DayLemmas.{day_count-2000, day_count-2100, has_day-is}
 use Rattle.reg_base.proofs.DayLemmas.{day_from_month-here, day_from_month-later, day_from_year-here}
@@ -195,3 +195,8 @@ parse_long_date-text date within =
 pub parse_date-text : (date : ℕ) → date < 3_155_760_000 → parse_date (date_text date) ≡ Ok date
 unfolding parse_date
 parse_date-text date within = rw (length-date_text date) (parse_long_date-text date within)
+
+pub parse_date_end-text : (date : ℕ) → date < 3_155_760_000
+    → parse_date_end (date_text date) ≡ Ok date
+unfolding parse_date_end
+parse_date_end-text date within = rw (length-date_text date) (parse_long_date-text date within)

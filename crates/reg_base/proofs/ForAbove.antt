@@ -19,7 +19,7 @@ use Rattle.reg_base.specs.contracts.value.ValueOrd.TheImpl.{ghosts}
 use Rattle.reg_base.specs.Results.{◌>>=◌, unless, some_or}
 use Rattle.reg_base.specs.Codes.{is_code, is_name}
 use Rattle.reg_base.specs.Numbers.{read_on, decimal_value, last_digits, number_text}
-use Rattle.reg_base.specs.Dates.{parse_date, date_text}
+use Rattle.reg_base.specs.Dates.{parse_date, parse_date_end, date_text}
 use Rattle.reg_base.specs.Cuts.{IsCut, inside, parse_cut, cut_text}
 use Rattle.reg_base.specs.Records.{Booked, value_cmp, values_cmp, put_once, point_of, booked_by}
 use Rattle.reg_base.specs.Records.{records_of, matches}
@@ -109,6 +109,15 @@ parse_date-text = dates.parse_date-text
 
 pub parse_date-within : (text : List ℕ) → IfOk (parse_date text) (λ date. date < 3_155_760_000)
 parse_date-within = ranges.parse_date-within
+
+-- the same of the end of a range
+pub parse_date_end-text : (date : ℕ) → date < 3_155_760_000
+    → parse_date_end (date_text date) ≡ Ok date
+parse_date_end-text = dates.parse_date_end-text
+
+pub parse_date_end-within : (text : List ℕ)
+    → IfOk (parse_date_end text) (λ date. date < 3_155_760_000)
+parse_date_end-within = ranges.parse_date_end-within
 
 pub parse_cut-text : (cut : Cut) → IsCut cut → parse_cut (cut_text cut) ≡ Ok cut
 parse_cut-text = points.parse_cut-text

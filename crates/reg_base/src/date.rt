@@ -1,7 +1,8 @@
 //! Dates to the second, from 2000 to 2099: how they are read and printed.
 ghost use Rattle.std.specs.Prelude.{◌≡◌, ◌++◌, ◌<◌, ◌≤◌, SomeIff, IfOk, OnOk, OnErr, IsTrue};
 ghost use Rattle.std.specs.Prelude.{string_bytes, length};
-ghost use Rattle.reg_base.specs.Dates.{date_of, day_of, parse_long_date, parse_date, date_text};
+ghost use Rattle.reg_base.specs.Dates.{date_of, day_of, parse_long_date, parse_date, parse_date_end};
+ghost use Rattle.reg_base.specs.Dates.{date_text};
 
 use crate::Memory;
 use crate::day::{Day, day_at, day_number, day_spelt, push_day, push_second, second_spelt};
@@ -75,6 +76,20 @@ impl Date {
         let text = text.as_bytes();
         if text.len() == 10 {
             date_of(day_spelt(text)?, 0)
+        } else {
+            parse_long_date(text)
+        }
+    }
+
+    /// Reads a date as the end of a range: `YYYY-MM-DD` is the day's last second, and the long
+    /// form is its second.
+    #[tactic(auto, unfolding(crate::specs::Dates::parse_date_end))]
+    pub fn parse_end(text: &str) -> Result<Date, DateFault>
+        ensures { result ≡ parse_date_end text.now }
+    {
+        let text = text.as_bytes();
+        if text.len() == 10 {
+            date_of(day_spelt(text)?, 86_399)
         } else {
             parse_long_date(text)
         }
