@@ -14,5 +14,6 @@ mod RangeLemmas
 mod ResultLemmas
 mod SumTextLemmas
 mod TextLemmas
+mod UnitLemmas
 mod Utf8Lemmas
 mod WorkedRows

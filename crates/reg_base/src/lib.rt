@@ -39,6 +39,7 @@ mod sums;
 mod tables;
 mod text;
 mod tried;
+mod units;
 mod value;
 
 pub use code::{Code, is_code_byte};
@@ -70,4 +71,5 @@ pub use sums::{print_sum, sum_string};
 pub use tables::{AccountRow, Method, PairRow, Periodicity, Range, Row, Unit};
 pub use text::{Text, join_texts, string_of};
 pub use tried::Fault;
+pub use units::{next_unit, unit_start};
 pub use value::{Cell, Value};
