@@ -162,7 +162,8 @@ balance_row chart entries key = account_row key Whole no_balance (pos 0) (pos 0)
 -- the balances of accounts, where the entries are those inside the cut
 unfoldable pub balance_rows : Chart → Option (List ℕ) → Bool → List BookedEntry → List AccountRow
 balance_rows chart account extras entries =
-    filter has_amount (map (balance_row chart entries) (account_keys_of chart account extras entries))
+    filter has_amount
+    (map (balance_row chart entries) (account_keys_of chart account extras entries))
 
 -- the balances of accounts at a cut
 abbrev pub account_balance_of : Chart → List BookedEntry → Option (List ℕ) → Bool → Cut
@@ -225,7 +226,10 @@ account_of_side (Some side) = Some side.account
 
 -- the pair of accounts of an entry
 abbrev pub pair_of : BookedEntry → Pair
-pair_of b = record { debit = account_of_side b.entry.debit; credit = account_of_side b.entry.credit }
+pair_of b = record {
+    debit = account_of_side b.entry.debit;
+    credit = account_of_side b.entry.credit;
+  }
 
 -- an absent account stands before all others
 abbrev pub absent_first : Option (List ℕ) → Option (List ℕ) → Ordering
