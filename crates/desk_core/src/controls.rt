@@ -131,7 +131,7 @@ fn failure_at(
     let changes = changed_rows(alloc, former, own, resource_place)?;
     let sums = sums_behind(
         alloc,
-        store.documents(),
+        store.walk(),
         after,
         place,
         register.resources.len(),

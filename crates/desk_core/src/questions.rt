@@ -130,7 +130,7 @@ impl Desk {
         ensures few { length result < 2 ^ 32 }
         ensures short { All HasShortSets result }
     {
-        self.store.documents()
+        self.store.walk()
     }
 }
 

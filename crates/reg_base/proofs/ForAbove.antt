@@ -3,9 +3,9 @@ use Rattle.std.proofs.Common.{◌≡◌, ℕ, ◌+◌, ◌*◌, ◌%◌, ◌^◌
 use Rattle.std.proofs.Common.{◌≤◌, ◌↔◌, Some, None}
 use Rattle.std.proofs.Common.{nat_lt, Option, IfSome, List, [], ◌∷◌, ◌++◌, length, get_or, IsUtf8}
 use Rattle.std.proofs.Common.{Result, Ok, IfOk}
-use Rattle.std.specs.Prelude.{filter}
+use Rattle.std.specs.Prelude.{filter, map, IsPermutation}
 use Rattle.std.specs.List.{list_all, flat_map, prefix_len, AllByRecursion}
-use Rattle.std.specs.List.Sorted.{IsStrictlySortedBy}
+use Rattle.std.specs.List.Sorted.{IsStrictlySortedBy, IsSorted}
 use Rattle.std.specs.Char.{is_ascii_digit}
 use Rattle.std.specs.Fmt.{decimal}
 use Rattle.std.specs.Str.{IsAscii}
@@ -21,9 +21,10 @@ use Rattle.reg_base.specs.Results.{◌>>=◌, unless, some_or}
 use Rattle.reg_base.specs.Codes.{is_code, is_name}
 use Rattle.reg_base.specs.Numbers.{read_on, decimal_value, last_digits, number_text}
 use Rattle.reg_base.specs.Dates.{parse_date, parse_date_end, date_text}
+use Rattle.reg_base.specs.Points.{point_cmp}
 use Rattle.reg_base.specs.Cuts.{IsCut, inside, parse_cut, cut_text}
 use Rattle.reg_base.specs.Records.{Booked, value_cmp, values_cmp, put_once, point_of, booked_by}
-use Rattle.reg_base.specs.Records.{records_of, matches}
+use Rattle.reg_base.specs.Records.{records_of, matches, in_order}
 use Rattle.reg_base.specs.Balances.{group_of, groups_of, contribution, total, sum_rows, balance_of}
 use Rattle.reg_base.specs.declared.tables.Periodicity.{Periodicity}
 use Rattle.reg_base.specs.Units.{unit_start, next_unit, are_dates, IsStart, IsUnitStart, IsNextUnit}
@@ -41,6 +42,7 @@ use Rattle.reg_base.proofs.Utf8Lemmas as utf8
 use Rattle.reg_base.proofs.OrderLemmas as orders
 use Rattle.reg_base.proofs.OnceLemmas as onces
 use Rattle.reg_base.proofs.BalanceLemmas as balances
+use Rattle.reg_base.proofs.InOrderLemmas as in_orders
 
 -- ---- readers that go on step by step
 
@@ -190,6 +192,27 @@ values_cmp_total = orders.values_cmp_total
 
 pub values_cmp_exact : CmpEqualImpliesEq values_cmp
 values_cmp_exact = orders.values_cmp_exact
+
+pub point_cmp_total : IsTotalOrder point_cmp
+point_cmp_total = orders.point_cmp_total
+
+pub point_cmp_exact : CmpEqualImpliesEq point_cmp
+point_cmp_exact = orders.point_cmp_exact
+
+-- the elements of a list in order are those of the list in any order
+pub in_order-permutation : {X : Type 0} {R : X → X → Ordering} → IsTotalOrder R
+    → CmpEqualImpliesEq R → (xs ys : List X) → IsPermutation xs ys → in_order R xs ≡ in_order R ys
+in_order-permutation o exact = in_orders.in_order-permutation o exact
+
+-- a sorted list is in order
+pub in_order-sorted : {X : Type 0} {R : X → X → Ordering} → IsTotalOrder R → CmpEqualImpliesEq R
+    → (xs : List X) → IsSorted R xs → in_order R xs ≡ xs
+in_order-sorted o exact = in_orders.in_order-sorted o exact
+
+-- elements in order of what is seen of them
+pub in_order-map : {X Y : Type 0} (S : Y → Y → Ordering) (view : X → Y) (xs : List X)
+    → map view (in_order (λ a b. S (view a) (view b)) xs) ≡ in_order S (map view xs)
+in_order-map = in_orders.in_order-map
 
 -- ---- balances
 

@@ -5,6 +5,7 @@ mod DateTextLemmas
 mod DayLemmas
 mod DigitLemmas
 pub mod ForAbove
+mod InOrderLemmas
 mod NumberLemmas
 mod OnceLemmas
 mod OrderLemmas
