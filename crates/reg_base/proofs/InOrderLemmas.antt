@@ -1,6 +1,7 @@
 -- The elements of a list in order do not depend on where they stood.
 use Rattle.std.proofs.Common.{◌≡◌, suc, List, [], ◌∷◌, map, refl, ap, ◌∙◌, sym, arith, Ordering}
-use Rattle.std.proofs.Common.{Less, Equal, Greater, is_lt, IsPermutation, IsSorted, true≢false}
+use Rattle.std.proofs.Common.{Less, Equal, Greater, is_lt, IsPermutation, IsSorted, false}
+use Rattle.std.proofs.Common.{true≢false}
 use Rattle.std.specs.Cmp.{IsTotalOrder}
 use Rattle.std.specs.Ordering.{match_ordering, ordering_reverse}
 use Rattle.std.proofs.lemmas.Map.Lookups.{CmpEqualImpliesEq}
