@@ -15,4 +15,5 @@ pub mod Reading
 pub mod Resolving
 pub mod Entries
 pub mod AccountTables
+pub mod LedgerLaws
 pub mod FaultTexts
