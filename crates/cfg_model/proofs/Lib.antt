@@ -11,4 +11,8 @@ pub mod PlaceLemmas
 pub mod TomlOrder
 pub mod TomlValues
 pub mod ConfigLemmas
+mod BalanceLemmas
+pub mod LeafLemmas
+mod LedgerLemmas
+pub mod SumLemmas
 mod WorkedRows

@@ -2,7 +2,7 @@
 use Rattle.std.specs.Prelude.{ℕ, ℤ, pos, neg_ℤ, ◌+ℤ◌, ◌-ℤ◌, int_lt, Bool, true, false, ◌&&◌, ◌||◌}
 use Rattle.std.specs.Prelude.{not, max, if◌then◌else◌, Option, Some, None, unwrap_or, is_none, List}
 use Rattle.std.specs.Prelude.{[], ◌∷◌, ◌++◌, length, map, filter}
-use Rattle.std.specs.List.{list_any, flat_map}
+use Rattle.std.specs.List.{flat_map}
 use Rattle.std.specs.Ordering.{nat_cmp, ordering_then, is_eq, int_eq}
 use Rattle.std.specs.Cmp.Lexicographic.{slice_cmp}
 use Rattle.std.specs.Str.{bytes_eq}
@@ -139,16 +139,16 @@ has_amount row = has_number
 -- a row of a key and a unit, with its opening and its closing as they are shown
 abbrev pub account_row : AccountKey → Unit → ℤ × ℤ → ℤ → ℤ → ℤ × ℤ → AccountRow
 account_row key unit opening debit credit closing = record {
-    account = key.account;
-    extras = unwrap_or key.extras [];
-    unit = unit;
-    open_dr = opening.0;
-    open_cr = opening.1;
-    turn_dr = debit;
-    turn_cr = credit;
-    close_dr = closing.0;
-    close_cr = closing.1;
-  }
+  account = key.account;
+  extras = unwrap_or key.extras [];
+  unit = unit;
+  open_dr = opening.0;
+  open_cr = opening.1;
+  turn_dr = debit;
+  turn_cr = credit;
+  close_dr = closing.0;
+  close_cr = closing.1;
+}
 
 -- no balance
 abbrev pub no_balance : ℤ × ℤ
@@ -195,11 +195,11 @@ account_turnovers_of chart entries account extras range =
 -- minus credit turnover, both as they are shown
 abbrev pub with_nets : Nature → ℤ → AccountRow → AccountRow
 with_nets nature opening row = record row {
-    open_dr = (by_nature nature opening).0;
-    open_cr = (by_nature nature opening).1;
-    close_dr = (by_nature nature (opening +ℤ row.turn_dr -ℤ row.turn_cr)).0;
-    close_cr = (by_nature nature (opening +ℤ row.turn_dr -ℤ row.turn_cr)).1;
-  }
+  open_dr = (by_nature nature opening).0;
+  open_cr = (by_nature nature opening).1;
+  close_dr = (by_nature nature (opening +ℤ row.turn_dr -ℤ row.turn_cr)).0;
+  close_cr = (by_nature nature (opening +ℤ row.turn_dr -ℤ row.turn_cr)).1;
+}
 
 -- balances and turnovers of a key in a unit, over all entries
 abbrev pub account_both_row : Chart → Range → List BookedEntry → AccountKey → Unit → AccountRow
@@ -227,9 +227,9 @@ account_of_side (Some side) = Some side.account
 -- the pair of accounts of an entry
 abbrev pub pair_of : BookedEntry → Pair
 pair_of b = record {
-    debit = account_of_side b.entry.debit;
-    credit = account_of_side b.entry.credit;
-  }
+  debit = account_of_side b.entry.debit;
+  credit = account_of_side b.entry.credit;
+}
 
 -- an absent account stands before all others
 abbrev pub absent_first : Option (List ℕ) → Option (List ℕ) → Ordering
@@ -254,11 +254,11 @@ joins_asked chart asked pair = has_asked chart asked pair.debit || has_asked cha
 -- the row of a pair: the sum of its entries
 abbrev pub pair_row : List BookedEntry → Pair → PairRow
 pair_row entries pair = record {
-    debit = pair.debit;
-    credit = pair.credit;
-    amount = sum_over
-        (λ b. if is_eq (pair_cmp (pair_of b) pair) then b.entry.amount else pos 0) entries;
-  }
+  debit = pair.debit;
+  credit = pair.credit;
+  amount = sum_over
+      (λ b. if is_eq (pair_cmp (pair_of b) pair) then b.entry.amount else pos 0) entries;
+}
 
 -- the sums by pairs of accounts, where the entries are those in the range
 unfoldable pub pair_rows : Chart → Option (List ℕ) → List BookedEntry → List PairRow

@@ -16,4 +16,5 @@ pub mod Resolving
 pub mod Entries
 pub mod AccountTables
 pub mod Asks
+pub mod LedgerLaws
 pub mod FaultTexts
