@@ -17,11 +17,11 @@ use crate::outcome::{Outcome, refusal_outcome};
 use desk_plans::{PartFault, Tried, shown_document};
 use desk_tables::{
     answer_account_balance, answer_account_both, answer_account_turnovers, answer_balance,
-    answer_both, answer_pairs, answer_turnovers,
+    answer_both, answer_documents, answer_pairs, answer_turnovers,
 };
 use desk_words::{
-    AccountBalance, AccountTurnovers, Answer, Balance, Both, DocQuestion, DrCr, Refusal, Reply,
-    Turnovers,
+    AccountBalance, AccountTurnovers, Answer, Balance, Both, DocQuestion, DocumentsQuestion, DrCr,
+    Refusal, Reply, Turnovers,
 };
 use doc_store::Documents;
 use reg_base::Memory;
@@ -95,6 +95,17 @@ impl Desk {
             (or_stop (deed_at self.now.desk (RequestIs.DrCr question.now)))) }
     {
         answered(answer_pairs(alloc, &self.config, self.walk(), question))
+    }
+
+    pub(crate) fn documents_outcome(
+        &self,
+        alloc: Global,
+        question: &DocumentsQuestion,
+    ) -> Result<Outcome, Memory>
+        ensures { IfOk result (Comes self.now.desk
+            (or_stop (deed_at self.now.desk (RequestIs.Documents question.now)))) }
+    {
+        answered(answer_documents(alloc, &self.config, &self.store, question))
     }
 
     pub(crate) fn show_outcome(

@@ -69,7 +69,9 @@ pub use right::Right;
 pub use scale::Scale;
 pub use shares::share;
 pub use sums::{print_sum, sum_string};
-pub use tables::{AccountRow, AskedList, Method, PairRow, Periodicity, Range, Row, Unit};
+pub use tables::{
+    AccountRow, AskedList, Method, PairRow, Periodicity, ROW_LIMIT, Range, Row, Unit,
+};
 pub use text::{Text, join_texts, string_of};
 pub use tried::Fault;
 pub use unit_laws::{unit_starts_keep_order, units_are_exact};

@@ -6,6 +6,9 @@ use crate::name::Name;
 use crate::point::Point;
 use crate::value::Value;
 
+/// How many rows a table may have.
+pub const ROW_LIMIT: u32 = 100_000;
+
 /// How a table cuts its range into units.
 #[derive(Clone, Copy, Debug, PartialEq, Eq)]
 pub enum Periodicity {
