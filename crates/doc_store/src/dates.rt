@@ -68,9 +68,9 @@ fn is_between(document: &Document, from: Date, to: Date) -> bool
 fn numbers_of(alloc: Global, points: &[Point]) -> Result<List<u32>, Memory>
     ensures { IfOk result (λ numbers. numbers ≡ map (λ p. p.doc) points.now) }
 {
-    let mut numbers = List::new(alloc);
+    let mut numbers = Vec::new(alloc);
     'points: for point in points {
         numbers.push(point.doc)?;
     }
-    Ok(numbers)
+    Ok(List::from_vec(numbers))
 }
