@@ -1,6 +1,6 @@
 -- What is asked of a register by the names of its dimensions: a filter, and what makes a group.
 use Rattle.std.specs.Prelude.{ℕ, Bool, ◌&&◌, not, is_some, if◌then◌else◌, Option, Some, None}
-use Rattle.std.specs.Prelude.{option_map, option_or, unwrap_or, List, [], ◌∷◌, ◌++◌, map, position}
+use Rattle.std.specs.Prelude.{option_map, unwrap_or, List, [], ◌∷◌, ◌++◌, map, position}
 use Rattle.std.specs.List.{find, filter_map}
 use Rattle.std.specs.Str.{bytes_eq}
 use Rattle.reg_base.specs.declared.value.Value.{Value}
@@ -27,9 +27,14 @@ first_wrong dimensions before (name ∷ names) =
     then first_wrong dimensions (before ++ name ∷ []) names
     else Some name
 
+-- the first of two names, where it is there, and else the second
+abbrev pub or_other : Option (List ℕ) → Option (List ℕ) → Option (List ℕ)
+or_other None other = other
+or_other (Some name) other = Some name
+
 -- the first name that a table of a register can't be asked by: of its filter, then of its group
 abbrev pub wrong_name : Register → List AskedList → Option (List (List ℕ)) → Option (List ℕ)
-wrong_name register lists group = option_or
+wrong_name register lists group = or_other
     (first_wrong register.dimensions [] (map (λ l. l.name) lists))
     (first_wrong register.dimensions [] (unwrap_or group []))
 
