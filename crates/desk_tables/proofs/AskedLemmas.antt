@@ -13,7 +13,7 @@ use Rattle.cfg_model.specs.declared.register.Register.{Register}
 use Rattle.cfg_model.specs.declared.ledger.Chart.{Chart}
 use Rattle.cfg_model.specs.Places.{register_place, ledger_place}
 use Rattle.cfg_model.specs.Asks.{wrong_name, filter_with, group_places}
-use Rattle.virt_tables.specs.declared.Ask.{Ask}
+use Rattle.virt_tables.specs.declared.ask.Ask.{Ask}
 use Rattle.virt_tables.specs.Asks.{asked_by}
 use Rattle.desk_words.specs.declared.tables.AskedRegister.{AskedRegister}
 use Rattle.desk_words.specs.declared.reply.Answer.{Answer}

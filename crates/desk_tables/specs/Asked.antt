@@ -8,7 +8,7 @@ use Rattle.cfg_model.specs.declared.config.Config.{Config}
 use Rattle.cfg_model.specs.declared.register.Register.{Register}
 use Rattle.cfg_model.specs.declared.ledger.Chart.{Chart}
 use Rattle.cfg_model.specs.Places.{register_place, ledger_place}
-use Rattle.virt_tables.specs.declared.Ask.{Ask}
+use Rattle.virt_tables.specs.declared.ask.Ask.{Ask}
 use Rattle.virt_tables.specs.Asks.{asked_by}
 use Rattle.ledger_reg.specs.declared.AccountAsk.{AccountAsk}
 use Rattle.desk_words.specs.declared.tables.AskedRegister.{AskedRegister}

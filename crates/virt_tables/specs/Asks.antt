@@ -6,7 +6,7 @@ use Rattle.reg_base.specs.declared.fault.TableFault.TheVariants.{UnknownField}
 use Rattle.reg_base.specs.Results.{◌>>=◌, none_or}
 use Rattle.cfg_model.specs.declared.register.Register.{Register}
 use Rattle.cfg_model.specs.Asks.{wrong_name, filter_with, group_places}
-use Rattle.virt_tables.specs.declared.Ask.{Ask}
+use Rattle.virt_tables.specs.declared.ask.Ask.{Ask}
 
 -- what is asked of the register at a place, or the first name that it can't be asked by
 unfoldable pub asked_by : Register → ℕ → List AskedList → Option (List (List ℕ))

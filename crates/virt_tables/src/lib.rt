@@ -1,6 +1,10 @@
 //! Stand-in.
 #![tactic(auto)]
 
+mod ask;
+
+pub use ask::Ask;
+
 ghost use Rattle.std.specs.Prelude.{◌≡◌, ◌<◌, ◌^◌, length, map, IfOk};
 ghost use Rattle.std.specs.List.{All};
 ghost use Rattle.reg_base.specs.Records.{records_of};
@@ -9,37 +13,11 @@ ghost use Rattle.reg_base.specs.Documents.{HasShortSets};
 ghost use Rattle.reg_base.specs.Tries.{Tries};
 ghost use Rattle.reg_base.specs.Turnovers.{limited_rows, table_of, turnovers_of};
 ghost use Rattle.reg_base.specs.Turnovers.{balance_and_turnovers_of};
-ghost use Rattle.virt_tables.specs.Asks.{asked_by};
 
 use cfg_model::Register;
 use doc_store::Documents;
-use reg_base::{AskedList, Cut, Fault, Filter, List, Memory, Method, Name, Range, Row, SumRow, TableFault};
+use reg_base::{Cut, Fault, List, Method, Range, Row, SumRow, TableFault};
 use std::alloc::Global;
-
-/// What a table asks of a register.
-#[derive(Drop)]
-pub struct Ask {
-    /// The place of the register in the configuration.
-    pub register: usize,
-    pub filter: Filter,
-    /// The places of the dimensions that make a group; all values do where none are given.
-    pub group: Option<List<u8>>,
-}
-
-impl Ask {
-    /// What is asked by names.
-    pub fn new(
-        _alloc: Global,
-        _register: &Register,
-        _place: usize,
-        _lists: List<AskedList>,
-        _group: &Option<List<Name>>,
-    ) -> Result<Ask, Fault<TableFault>>
-        ensures { Tries result (asked_by _register.now _place _lists _group.now) }
-    {
-        Err(Fault::Memory)
-    }
-}
 
 /// Balance.
 pub fn balance(
