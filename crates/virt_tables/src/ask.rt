@@ -1,7 +1,7 @@
 //! What a table asks of a register, by the names of its dimensions.
 ghost use Rattle.std.specs.Prelude.{◌≡◌, ◌≤◌, ◌<◌, ◌++◌, ◌∷◌, [], length, map, option_map, unwrap_or};
-ghost use Rattle.std.specs.Prelude.{IfOk, IfSome};
-ghost use Rattle.std.specs.List.{find, filter_map};
+ghost use Rattle.std.specs.Prelude.{IfOk, IfSome, OnOk};
+ghost use Rattle.std.specs.List.{find, filter_map, cons_option};
 ghost use Rattle.std.specs.Option.{option_copied};
 ghost use Rattle.std.specs.Str.{bytes_eq};
 ghost use Rattle.reg_base.specs.Tries.{Tries};
@@ -188,9 +188,18 @@ fn places_in(
 {
     let mut places = Vec::new(alloc);
     for name in names {
-        if let Some(place) = dimension_place(dimensions, name) {
-            places.push(place as u8)?;
-        }
+        push_place(&mut places, dimension_place(dimensions, name))?;
     }
     Ok(List::from_vec(places))
+}
+
+// Puts a place behind the others, where there is one.
+fn push_place(places: &mut Vec<u8>, place: Option<usize>) -> Result<(), Memory>
+    requires { IfSome place (λ p. p < 256) }
+    ensures { OnOk result (places.new.items ≡ places.old.items ++ cons_option place []) }
+{
+    if let Some(place) = place {
+        places.push(place as u8)?;
+    }
+    Ok(())
 }
