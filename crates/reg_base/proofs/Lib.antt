@@ -14,7 +14,9 @@ mod RangeLemmas
 mod ResultLemmas
 mod SumTextLemmas
 mod TextLemmas
+mod UnitDays
 mod UnitLaws
 mod UnitLemmas
+mod UnitParts
 mod Utf8Lemmas
 mod WorkedRows
