@@ -5,13 +5,16 @@ mod DateTextLemmas
 mod DayLemmas
 mod DigitLemmas
 pub mod ForAbove
+mod KeyLemmas
 mod NumberLemmas
 mod OnceLemmas
 mod OrderLemmas
+mod PartitionLemmas
 mod PermutationLemmas
 mod PointTextLemmas
 mod RangeLemmas
 mod ResultLemmas
+mod SumLemmas
 mod SumTextLemmas
 mod TextLemmas
 mod UnitDays
