@@ -66,7 +66,7 @@ by_parts =
     then_cmp (on sort_of nat_cmp)
     (then_cmp (on start_of nat_cmp) (then_cmp (on place_of point_cmp) (on line_of nat_cmp)))
 
-then-nothing : (r : Ordering) → ordering_then r Equal ≡ r
+pub then-nothing : (r : Ordering) → ordering_then r Equal ≡ r
 then-nothing Less = refl
 then-nothing Equal = refl
 then-nothing Greater = refl

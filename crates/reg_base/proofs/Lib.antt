@@ -5,6 +5,7 @@ mod DateTextLemmas
 mod DayLemmas
 mod DigitLemmas
 pub mod ForAbove
+pub mod ForTables
 mod KeyLemmas
 mod NumberLemmas
 mod OnceLemmas
@@ -16,6 +17,8 @@ mod RangeLemmas
 mod ResultLemmas
 mod SumLemmas
 mod SumTextLemmas
+mod TableOrder
+mod TableSums
 mod TextLemmas
 mod UnitDays
 mod UnitLaws
