@@ -3,6 +3,7 @@
 ghost use Rattle.std.specs.Prelude.{◌≡◌, Result, Option, List, ℕ};
 ghost use Rattle.reg_base.specs.declared.fault.TableFault.{TableFault as FaultOf};
 ghost use Rattle.reg_base.specs.Tries.{Tries, TriesAs};
+ghost use Rattle.cfg_model.specs.Limits.{IsWithinLimits};
 ghost use Rattle.desk_model.specs.LedgerQuestions.{has_asked_account as has_account_of};
 ghost use Rattle.desk_tables.specs.Asked.{asking_of, asking_ledger, asking_view, ledger_view};
 ghost use Rattle.desk_tables.specs.Asked.{has_one as has_one_of, refused as refused_of};
@@ -37,6 +38,7 @@ pub(crate) fn asking<'a>(
     asked: &AskedRegister,
     balances_alone: bool,
 ) -> Tried<Asking<'a>>
+    requires { IsWithinLimits config.now }
     ensures { TriesAs asking_view result (asking_of config.now asked.now balances_alone) }
 {
     let Some(place) = config.register_place(&asked.name) else {

@@ -2,6 +2,7 @@
 ghost use Rattle.std.specs.Prelude.{◌≡◌, ◌<◌, ◌^◌, length, map, IfOk};
 ghost use Rattle.std.specs.List.{All};
 ghost use Rattle.reg_base.specs.Documents.{HasShortSets};
+ghost use Rattle.cfg_model.specs.Limits.{IsWithinLimits};
 ghost use Rattle.reg_base.specs.Tries.{Tries};
 ghost use Rattle.desk_model.specs.Questions.{range_of as range_of_dates};
 ghost use Rattle.desk_model.specs.RegisterQuestions.{scales_of as scales_of_register};
@@ -26,6 +27,7 @@ pub fn answer_balance(
     documents: Documents<'_>,
     question: &Balance,
 ) -> Tried<Answer>
+    requires limits { IsWithinLimits config.now }
     requires few { length documents < 2 ^ 32 }
     requires short { All HasShortSets documents }
     ensures value { Tries result (question_answer documents.entry
@@ -46,6 +48,7 @@ pub fn answer_turnovers(
     documents: Documents<'_>,
     question: &Turnovers,
 ) -> Tried<Answer>
+    requires limits { IsWithinLimits config.now }
     requires few { length documents < 2 ^ 32 }
     requires short { All HasShortSets documents }
     ensures value { Tries result (question_answer documents.entry
@@ -70,6 +73,7 @@ pub fn answer_both(
     documents: Documents<'_>,
     question: &Both,
 ) -> Tried<Answer>
+    requires limits { IsWithinLimits config.now }
     requires few { length documents < 2 ^ 32 }
     requires short { All HasShortSets documents }
     ensures value { Tries result (question_answer documents.entry (question_both config.now question.now)) }
