@@ -1,5 +1,5 @@
 -- For the crates above: the lemmas on sums over lists, distinct keys in order, and tables.
-use Rattle.std.proofs.Common.{◌≡◌, ℕ, ℤ, pos, ◌+ℤ◌, Bool, true, false, cond, ◌||◌, Option, List}
+use Rattle.std.proofs.Common.{◌≡◌, ℕ, ℤ, pos, ◌+ℤ◌, Bool, false, cond, ◌||◌, Option, List}
 use Rattle.std.proofs.Common.{◌∷◌, ◌++◌, map}
 use Rattle.std.specs.Prelude.{IsPermutation}
 use Rattle.std.specs.List.{filter, flat_map, list_any, AllByRecursion}
@@ -86,7 +86,8 @@ sum_over-permutation = totals.sum_over-permutation
 
 -- ---- distinct keys in order
 
-module _ {K : Type 0} {R : K → K → Ordering} (o : IsTotalOrder R) (exact : CmpEqualImpliesEq R) where
+module _ {K : Type 0} {R : K → K → Ordering} (o : IsTotalOrder R)
+    (exact : CmpEqualImpliesEq R) where
   -- two elements may be put in either order
   pub put_once-put_once : (a b : K) (ks : List K)
       → put_once R a (put_once R b ks) ≡ put_once R b (put_once R a ks)

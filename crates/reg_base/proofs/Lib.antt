@@ -26,4 +26,8 @@ mod UnitLaws
 mod UnitLemmas
 mod UnitParts
 mod Utf8Lemmas
+mod WorkedPeriods
 mod WorkedRows
+mod WorkedTables
+mod WorkedTurnovers
+mod WorkedUnits

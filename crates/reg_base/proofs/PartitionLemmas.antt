@@ -33,7 +33,8 @@ reversed-Equal Less h = cc
 reversed-Equal Equal h = refl
 reversed-Equal Greater h = cc
 
-module _ {K : Type 0} {R : K → K → Ordering} (o : IsTotalOrder R) (exact : CmpEqualImpliesEq R) where
+module _ {K : Type 0} {R : K → K → Ordering} (o : IsTotalOrder R)
+    (exact : CmpEqualImpliesEq R) where
   -- an element is equal to itself
   pub same-Equal : (k : K) → R k k ≡ Equal
   same-Equal k = reversed-Equal (R k k) (o.antisymm k k)

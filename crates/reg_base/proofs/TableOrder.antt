@@ -1,5 +1,6 @@
 -- Tables of registers do not depend on the order of the records, and their rows close.
-use Rattle.std.proofs.Common.{◌≡◌, ℕ, ℤ, pos, ◌+ℤ◌, Bool, true, cond, max, Option, List, [], ◌∷◌, ◌++◌}
+use Rattle.std.proofs.Common.{◌≡◌, ℕ, ℤ, pos, ◌+ℤ◌, Bool, true, cond, max, Option, List, [], ◌∷◌}
+use Rattle.std.proofs.Common.{◌++◌}
 use Rattle.std.proofs.Common.{map, refl, ap, ◌∙◌, sym, nat_le, ◌&&◌}
 use Rattle.std.specs.Prelude.{IsPermutation}
 use Rattle.std.specs.List.{filter, flat_map, range_with_len, All}
@@ -16,7 +17,6 @@ use Rattle.reg_base.specs.declared.tables.Unit.{Unit as TableUnit}
 use Rattle.reg_base.specs.declared.tables.Unit.TheVariants.{Whole, Start, At, Line}
 use Rattle.reg_base.specs.declared.tables.Range.{Range}
 use Rattle.reg_base.specs.declared.tables.Method.{Method}
-use Rattle.reg_base.specs.declared.tables.Row.{Row}
 use Rattle.reg_base.specs.Points.{point_cmp}
 use Rattle.reg_base.specs.Cuts.{inside}
 use Rattle.reg_base.specs.Records.{Booked, values_cmp, point_of, amount_at, booked_by, records_of}
@@ -24,10 +24,11 @@ use Rattle.reg_base.specs.Records.{put_once}
 use Rattle.reg_base.specs.Records.{matches, chosen_records}
 use Rattle.reg_base.specs.Balances.{group_of, groups_of, contribution, total, row_of}
 use Rattle.reg_base.specs.BookedEntries.{entry_cmp, entered_by, entries_of}
-use Rattle.reg_base.specs.Sums.{sum_over, in_order_once, plus_each}
+use Rattle.reg_base.specs.Sums.{sum_over, in_order_once}
 use Rattle.reg_base.specs.Turnovers.{RowKey, key_cmp, key_of, in_range, receipt_at, expense_at}
 use Rattle.reg_base.specs.Turnovers.{sums_where, is_of, turnover_row, has_movement, turnover_rows}
-use Rattle.reg_base.specs.Turnovers.{turnovers_of, before_unit, edge_units, both_keys, with_balances}
+use Rattle.reg_base.specs.Turnovers.{turnovers_of, before_unit, edge_units, both_keys}
+use Rattle.reg_base.specs.Turnovers.{with_balances}
 use Rattle.reg_base.specs.Turnovers.{both_row, stands, both_rows, balance_and_turnovers_of}
 use Rattle.reg_base.specs.TableLaws.{Closes}
 use Rattle.reg_base.proofs.OrderLemmas.{values_cmp_total, values_cmp_exact}

@@ -1,8 +1,8 @@
 -- Whatever the units, the rows of a group sum to what the records of the group add.
 use Rattle.std.proofs.Common.{◌≡◌, ℕ, zero, suc, ℤ, pos, ◌+ℤ◌, Bool, true, false, cond, ◌&&◌, ◌||◌}
-use Rattle.std.proofs.Common.{not, nat_lt, Option, Some, None, option_map, unwrap_or, List, [], ◌∷◌}
-use Rattle.std.proofs.Common.{map, refl, ap, ◌∙◌, sym, arith, ◌+◌, ◌<◌, ◌≤◌, inl, inr, subst}
-use Rattle.std.specs.List.{filter, find, list_any, range_with_len, slice_get, AllByRecursion}
+use Rattle.std.proofs.Common.{not, nat_lt, Option, Some, option_map, unwrap_or, List, [], ◌∷◌}
+use Rattle.std.proofs.Common.{map, refl, ap, ◌∙◌, sym, arith, inl, inr, subst}
+use Rattle.std.specs.List.{filter, find, range_with_len, slice_get, AllByRecursion}
 use Rattle.std.specs.List.Sorted.{IsStrictlySortedBy}
 use Rattle.std.specs.Ordering.{is_eq, int_eq, match_ordering, ordering_then, ordering_reverse}
 use Rattle.std.specs.declared.cmp.Ordering.{Ordering}
@@ -14,12 +14,10 @@ use Rattle.std.proofs.lemmas.Simd.{map-map}
 use Rattle.std.proofs.lemmas.Option.{unwrap_or-slice_get, slice_get_past}
 use Rattle.std.proofs.lemmas.List.FromFn.{get_or-map-range_with_len, length-map-range_with_len}
 use Rattle.reg_base.specs.declared.value.Value.{Value}
-use Rattle.reg_base.specs.declared.records.Filter.{Filter}
 use Rattle.reg_base.specs.declared.records.Rec.{Rec}
 use Rattle.reg_base.specs.declared.tables.Periodicity.{Periodicity}
 use Rattle.reg_base.specs.declared.tables.Periodicity.TheVariants.{Period}
 use Rattle.reg_base.specs.declared.tables.Unit.TheVariants.{Whole}
-use Rattle.reg_base.specs.declared.tables.Range.{Range}
 use Rattle.reg_base.specs.declared.tables.Row.{Row}
 use Rattle.reg_base.specs.Records.{Booked, values_cmp, put_once, amount_at, chosen_records}
 use Rattle.reg_base.specs.Balances.{group_of}
@@ -28,8 +26,8 @@ use Rattle.reg_base.specs.Turnovers.{RowKey, key_cmp, key_of, in_range, receipt_
 use Rattle.reg_base.specs.Turnovers.{sums_where, is_of, turnover_row, has_movement, turnover_rows}
 use Rattle.reg_base.specs.TableLaws.{row_number, is_of_group, group_sum, first_in, UnitsAddUp}
 use Rattle.reg_base.proofs.OrderLemmas.{values_cmp_total, values_cmp_exact}
-use Rattle.reg_base.proofs.KeyLemmas.{key_cmp_total, key_cmp_exact, then-nothing}
-use Rattle.reg_base.proofs.SumLemmas.{sum_over-map, sum_over-filter, sum_over-same, sum_over-zero}
+use Rattle.reg_base.proofs.KeyLemmas.{key_cmp_total, key_cmp_exact}
+use Rattle.reg_base.proofs.SumLemmas.{sum_over-map, sum_over-filter, sum_over-same}
 use Rattle.reg_base.proofs.SumLemmas.{zero_first}
 use Rattle.reg_base.proofs.PartitionLemmas.{in_order_once-rising, sum_over-partition}
 

@@ -1,7 +1,8 @@
 -- The day on which a unit starts, by arithmetic on the day of the calendar.
-use Rattle.std.proofs.Common.{◌≡◌, ℕ, zero, suc, ◌+◌, ◌-◌, ◌*◌, ◌/◌, ◌%◌, ◌<◌, ◌≤◌, ◌==◌, ◌||◌}
+use Rattle.std.proofs.Common.{◌≡◌, ℕ, zero, suc, ◌+◌, ◌-◌, ◌%◌, ◌<◌, ◌≤◌, ◌==◌, ◌||◌}
 use Rattle.std.proofs.Common.{Bool, true, false, inl, inr, pos, refl, ap, sym, ◌∙◌, arith}
-use Rattle.std.proofs.lemmas.Bool.{cases_lt, ne_eqb, eq-eqb, or_from, or_right, both_ways, false_from_ne_true}
+use Rattle.std.proofs.lemmas.Bool.{cases_lt, ne_eqb, eq-eqb, or_from, or_right, both_ways}
+use Rattle.std.proofs.lemmas.Bool.{false_from_ne_true}
 use Rattle.std.proofs.lemmas.Bool.Decides.{nat_tests}
 use Rattle.jiff_core.specs.Calendar.{days_in_year, days_in_month}
 use Rattle.jiff_core.proofs.CalendarLemmas.{days_in_month_bounds, days_in_year_bounds}
@@ -144,7 +145,8 @@ pub start_day-month : (by : Periodicity) (day back : ℕ) → by ≡ Month
     → back + 1 ≡ (calendar_day day).day → day - back ≡ start_day by day
 unfolding starts_unit
 start_day-month by day back is_month same =
-    sym (ap (λ b. start_day b day) is_month ∙ start_day-back Month (λ d. d == 1) (λ d. refl) 1 back day (omega arith) refl
+    sym (ap (λ b. start_day b day) is_month
+    ∙ start_day-back Month (λ d. d == 1) (λ d. refl) 1 back day (omega arith) refl
     (λ other above le. ne_eqb other 1 (λ is. absurd (omega arith))) (omega arith))
 
 abbrev is_tenth : ℕ → Bool

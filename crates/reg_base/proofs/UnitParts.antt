@@ -1,5 +1,5 @@
 -- The first day of a part of the year is the start of the unit of each day in the part.
-use Rattle.std.proofs.Common.{◌≡◌, ℕ, ◌+◌, ◌-◌, ◌%◌, ◌<◌, ◌≤◌, ◌==◌, ◌&&◌, Bool, true, false, inl}
+use Rattle.std.proofs.Common.{◌≡◌, ℕ, ◌+◌, ◌-◌, ◌%◌, ◌<◌, ◌≤◌, ◌==◌, inl}
 use Rattle.std.proofs.Common.{inr, pos, refl, ap, sym, subst, ◌∙◌, arith, ℤ, Option, Some, IfSome}
 use Rattle.std.proofs.lemmas.Bool.{cases_lt, cases_order, eqb-true, eq-eqb, and_parts}
 use Rattle.std.proofs.lemmas.Bool.{false_from_ne_true}
@@ -109,7 +109,8 @@ module _ (months : ℕ) (none : (x other : ℕ) → x - x % months < other → o
         let g = calendar_day other in
         let m = calendar_day-number other (omega arith) in
         let civil_g = civil-has_day g (omega (arith, m.1.last)) m.0.real in
-        let parts = and_parts (is_first g) ((g.month - 1) % months == 0) (sym (told other) ∙ starts) in
+        let parts = and_parts (is_first g) ((g.month - 1) % months == 0)
+        (sym (told other) ∙ starts) in
         no_part c g civil civil_g civil_f (eqb-true g.day 1 parts.0)
         (eqb-true ((g.month - 1) % months) 0 parts.1)
         (omega (arith, m.0.counted, is.counted)) (omega (arith, m.0.counted, n.0.counted))))

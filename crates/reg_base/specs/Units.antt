@@ -1,6 +1,7 @@
 -- Units of time: days, weeks, ten days, months, quarters, half years and years.
 use Rattle.std.specs.Prelude.{◌≡◌, ◌<◌, ◌≤◌, ℕ, zero, suc, ◌+◌, ◌-◌, ◌*◌, ◌/◌, ◌%◌, ◌==◌}
-use Rattle.std.specs.Prelude.{◌&&◌, ◌||◌, Bool, true, false, if◌then◌else◌, Option, option_map, List, map, filter}
+use Rattle.std.specs.Prelude.{◌&&◌, ◌||◌, Bool, true, false, if◌then◌else◌, Option, option_map}
+use Rattle.std.specs.Prelude.{List, map, filter}
 use Rattle.std.specs.List.{find, range_with_len}
 use Rattle.reg_base.specs.declared.day.Day.{Day as CalendarDay}
 use Rattle.reg_base.specs.declared.tables.Periodicity.{Periodicity}

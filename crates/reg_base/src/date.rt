@@ -1,7 +1,8 @@
 //! Dates to the second, from 2000 to 2099: how they are read and printed.
 ghost use Rattle.std.specs.Prelude.{◌≡◌, ◌++◌, ◌<◌, ◌≤◌, SomeIff, IfOk, OnOk, OnErr, IsTrue};
 ghost use Rattle.std.specs.Prelude.{string_bytes, length};
-ghost use Rattle.reg_base.specs.Dates.{date_of, day_of, parse_long_date, parse_date, parse_date_end};
+ghost use Rattle.reg_base.specs.Dates.{date_of, day_of, parse_long_date, parse_date};
+ghost use Rattle.reg_base.specs.Dates.{parse_date_end};
 ghost use Rattle.reg_base.specs.Dates.{date_text};
 
 use crate::Memory;

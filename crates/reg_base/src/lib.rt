@@ -1,17 +1,19 @@
 //! Plain types of registers: texts, codes, comments, dates, points, documents, records and why they
-//! are refused, and what a balance is.
+//! are refused, and what a balance and a table are.
 //!
 //! Means: a text is its bytes, a date its seconds, a list its elements; `records_of` in
 //! `specs/Records.antt` gives a register's records, and `balance_of` in `specs/Balances.antt`
-//! sums them; `specs/Documents.antt` says what it means to put, replace and remove a document.
-//! Contracts of all crates above speak of these.
+//! sums them; `specs/Documents.antt` says what it means to put, replace and remove a document;
+//! `specs/Units.antt` cuts time into units, and `turnovers_of` and `balance_and_turnovers_of` in
+//! `specs/Turnovers.antt` are the tables over them. Contracts of all crates above speak of these.
 //!
 //! Stands on: `jiff_core` for the calendar.
 //!
 //! Promises: each `parse` accepts exactly its spelling, and those of numbers, dates, points and
 //! cuts name the first fault; the four are printed exactly as `specs/` says, and read back; orders
-//! are total and tell all apart; a balance does not depend on the order of the records; a share is
-//! the nearest whole number.
+//! are total and tell all apart; a balance or a table does not depend on the order of the records;
+//! a unit starts at the greatest start that is not above a date; rows close, and those of smaller
+//! units add up to those of the whole range; a share is the nearest whole number.
 //!
 //! Leaves open: how much memory a text takes, and when memory is refused.
 #![tactic(auto)]

@@ -1,4 +1,5 @@
-use Rattle.std.proofs.Common.{◌≡◌, ◌<◌, true, false, Some, rules, refl, ap, sym, ◌∙◌, option_map, arith}
+use Rattle.std.proofs.Common.{◌≡◌, ◌<◌, true, false, Some, rules, refl, ap, sym, ◌∙◌, option_map}
+use Rattle.std.proofs.Common.{arith}
 use Rattle.reg_base.specs.Units.{midnight, starts_unit, next_day, next_unit}
 use Rattle.reg_base.proofs.UnitLemmas.{find_to-here, find_to-skip, find_to-end}
 use Rattle.reg_base.proofs.units.next_unit.Goals as goal
