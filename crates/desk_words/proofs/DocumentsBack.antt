@@ -25,8 +25,8 @@ use Rattle.desk_words.specs.Reading.{operation_of, check_present, check_known, m
 use Rattle.desk_words.specs.JsonValues.{whole}
 use Rattle.desk_words.specs.RequestTexts.{write_frame, write_members, manual_frame, manual_members}
 use Rattle.desk_words.specs.RequestTexts.{request_data}
-use Rattle.desk_words.specs.WellFormed.{IsCode, IsNumber, IsComment, IsWriteRequest}
-use Rattle.desk_words.specs.WellFormed.{IsManualRequest}
+use Rattle.desk_words.specs.WellFormedParts.{IsCode, IsNumber, IsComment}
+use Rattle.desk_words.specs.WellFormed.{IsWriteRequest, IsManualRequest}
 use Rattle.desk_words.proofs.PlainLemmas.{IsPlain-sets_data, depth-sets_data, IsPlain-fields_data}
 use Rattle.desk_words.proofs.PlainLemmas.{depth-fields_data, IsPlain-lines_data, depth-lines_data}
 use Rattle.desk_words.proofs.ShapesBack.{json_name-back, json_code-back, json_number-back}

@@ -7,15 +7,11 @@ use Rattle.serde_json.specs.Data.{Data, null, boolean, number, string, array, ob
 use Rattle.serde_json.specs.Data.{Members}
 use Rattle.serde_json.specs.Find.{as_object}
 use Rattle.json_laws.specs.Plain.{HasUtf8}
-use Rattle.reg_base.specs.Cuts.{IsCut}
-use Rattle.reg_base.specs.Results.{◌>>=◌, some_or, none_or, Gives}
+use Rattle.reg_base.specs.Results.{some_or, none_or, Gives}
 use Rattle.reg_base.proofs.ForAbove.{IfOk-then, IfOk-next, IfOk-unless}
-use Rattle.desk_words.specs.declared.fault.Member.{Member}
 use Rattle.desk_words.specs.declared.fault.Member.TheVariants.{Clerk, No, Key, Kind, Date, Head}
 use Rattle.desk_words.specs.declared.fault.Member.TheVariants.{Lines, On, Sets, Comment}
 use Rattle.desk_words.specs.declared.fault.Member.TheVariants.{Doc as Doc_word}
-use Rattle.desk_words.specs.declared.fault.Member.TheVariants.{Register as Register_word}
-use Rattle.desk_words.specs.declared.fault.Member.TheVariants.{Cut as Cut_word}
 use Rattle.desk_words.specs.declared.fault.WordFault.{WordFault}
 use Rattle.desk_words.specs.declared.fault.WordFault.TheVariants.{BadMember, NotJson, Memory}
 use Rattle.desk_words.specs.declared.members.Operation.{Operation}
@@ -29,6 +25,13 @@ use Rattle.desk_words.specs.declared.members.Operation.TheVariants.{Balance as B
 use Rattle.desk_words.specs.declared.members.Operation.TheVariants.{Doc as Doc_op}
 use Rattle.desk_words.specs.declared.members.Operation.TheVariants.{Post as Post_op, PostStanding}
 use Rattle.desk_words.specs.declared.members.Operation.TheVariants.{Unpost as Unpost_op}
+use Rattle.desk_words.specs.declared.members.Operation.TheVariants.{Turnovers as Turnovers_op}
+use Rattle.desk_words.specs.declared.members.Operation.TheVariants.{Both as Both_op}
+use Rattle.desk_words.specs.declared.members.Operation.TheVariants.{AccountBalance as Held_op}
+use Rattle.desk_words.specs.declared.members.Operation.TheVariants.{AccountTurnovers as Moved_op}
+use Rattle.desk_words.specs.declared.members.Operation.TheVariants.{AccountBoth as Whole_op}
+use Rattle.desk_words.specs.declared.members.Operation.TheVariants.{DrCr as DrCr_op}
+use Rattle.desk_words.specs.declared.members.Operation.TheVariants.{Documents as Documents_op}
 use Rattle.desk_words.specs.declared.request.Request.{Request}
 use Rattle.desk_words.specs.declared.request.Request.TheVariants.{Write as Write_request}
 use Rattle.desk_words.specs.declared.request.Request.TheVariants.{Mark as Mark_request}
@@ -40,47 +43,45 @@ use Rattle.desk_words.specs.declared.request.Request.TheVariants.{Balance as Bal
 use Rattle.desk_words.specs.declared.request.Request.TheVariants.{Doc as Doc_request}
 use Rattle.desk_words.specs.declared.request.Request.TheVariants.{Post as Post_request}
 use Rattle.desk_words.specs.declared.request.Request.TheVariants.{Unpost as Unpost_request}
+use Rattle.desk_words.specs.declared.request.Request.TheVariants.{Turnovers as Turnovers_request}
+use Rattle.desk_words.specs.declared.request.Request.TheVariants.{Both as Both_request}
+use Rattle.desk_words.specs.declared.request.Request.TheVariants.{AccountBalance as Held_request}
+use Rattle.desk_words.specs.declared.request.Request.TheVariants.{AccountTurnovers as Moved_request}
+use Rattle.desk_words.specs.declared.request.Request.TheVariants.{AccountBoth as Whole_request}
+use Rattle.desk_words.specs.declared.request.Request.TheVariants.{DrCr as DrCr_request}
+use Rattle.desk_words.specs.declared.request.Request.TheVariants.{Documents as Documents_request}
 use Rattle.desk_words.specs.declared.request.Post.TheVariants.{Content, Standing}
 use Rattle.desk_words.specs.Members.{content_members, first_present}
-use Rattle.desk_words.specs.Shapes.{OrFault, required_at, optional_at, json_name, json_code}
-use Rattle.desk_words.specs.Shapes.{json_number, json_date, json_cut, json_boolean, json_comment}
+use Rattle.desk_words.specs.Shapes.{required_at, json_name, json_code, json_number, json_date}
+use Rattle.desk_words.specs.Shapes.{json_boolean, json_comment}
 use Rattle.desk_words.specs.Sets.{json_sets}
 use Rattle.desk_words.specs.Fields.{json_fields, json_lines}
 use Rattle.desk_words.specs.ReadRequests.{key_beside, write_request, switch_request}
 use Rattle.desk_words.specs.ReadRequests.{manual_request, close_request, sweep_request}
-use Rattle.desk_words.specs.ReadRequests.{balance_request, doc_question, standing_document}
+use Rattle.desk_words.specs.ReadRequests.{doc_question, standing_document}
 use Rattle.desk_words.specs.ReadRequests.{standing_post}
+use Rattle.desk_words.specs.ReadTables.{balance_request, turnovers_request, both_request}
+use Rattle.desk_words.specs.ReadTables.{account_balance_request, account_turnovers_request}
+use Rattle.desk_words.specs.ReadTables.{dr_cr_request, documents_question}
 use Rattle.desk_words.specs.Reading.{json_document, operation_of, check_present, check_known}
 use Rattle.desk_words.specs.Reading.{members_of, request_in}
-use Rattle.desk_words.specs.WellFormed.{IsName, IsCode, IsNumber, IsDate, IsComment, AreFields}
-use Rattle.desk_words.specs.WellFormed.{IsSetText, IsWriteRequest, IsSwitch, IsManualRequest}
-use Rattle.desk_words.specs.WellFormed.{IsCloseRequest, IsSweepRequest, IsBalanceRequest}
+use Rattle.desk_words.specs.WellFormedParts.{IsName, IsCode, IsNumber, IsDate, IsComment}
+use Rattle.desk_words.specs.WellFormedTables.{IsBalanceRequest, IsTurnovers, IsBoth}
+use Rattle.desk_words.specs.WellFormedTables.{IsAccountBalance, IsAccountTurnovers, IsDrCr}
+use Rattle.desk_words.specs.WellFormedTables.{IsDocumentsQuestion}
+use Rattle.desk_words.specs.WellFormed.{AreFields, IsSetText, IsWriteRequest, IsSwitch}
+use Rattle.desk_words.specs.WellFormed.{IsManualRequest, IsCloseRequest, IsSweepRequest}
 use Rattle.desk_words.specs.WellFormed.{IsDocQuestion, IsStandingDocument, IsRequest}
 use Rattle.desk_words.proofs.OrderLemmas.{NamesAscend, json_document-ascends}
-use Rattle.desk_words.proofs.ReadValues.{IsRead, AreRead, IsIf, required_at-Is, optional_at-Is}
+use Rattle.desk_words.proofs.ReadValues.{IsRead, AreRead}
 use Rattle.desk_words.proofs.ShapeLemmas.{json_name-IsName, json_code-IsCode, json_date-IsDate}
-use Rattle.desk_words.proofs.ShapeLemmas.{json_cut-IsCut, json_number-IsNumber}
+use Rattle.desk_words.proofs.ShapeLemmas.{json_number-IsNumber}
 use Rattle.desk_words.proofs.ShapeLemmas.{json_comment-IsComment, json_sets-Is, json_fields-Are}
 use Rattle.desk_words.proofs.ShapeLemmas.{json_lines-Are}
-
--- ---- how each member is read
-
--- a member that is asked for, whose shape gives what has P, and then what has Q
-asked : {X Y : Type 0} (P : X → Type 0) (Q : Y → Type 0) (shape : Member → Data → OrFault X)
-    → ((m : Member) (d : Data) → IsRead d → IfOk (shape m d) P)
-    → (m : Member) (object : Members) → AreRead object → (next : X → OrFault Y)
-    → ((x : X) → P x → IfOk (next x) Q) → IfOk (required_at shape m object >>= next) Q
-asked P Q shape is m object h next then_is =
-    IfOk-then P Q (required_at shape m object) next (required_at-Is P shape is m object h) then_is
-
--- the same of a member that may be absent
-allowed : {X Y : Type 0} (P : X → Type 0) (Q : Y → Type 0) (shape : Member → Data → OrFault X)
-    → ((m : Member) (d : Data) → IsRead d → IfOk (shape m d) P)
-    → (m : Member) (object : Members) → AreRead object → (next : Option X → OrFault Y)
-    → ((o : Option X) → IsIf P o → IfOk (next o) Q) → IfOk (optional_at shape m object >>= next) Q
-allowed P Q shape is m object h next then_is =
-    IfOk-then (IsIf P) Q (optional_at shape m object) next
-    (optional_at-Is P shape is m object h) then_is
+use Rattle.desk_words.proofs.TableLemmas.{asked, allowed, balance_request-Is, turnovers_request-Is}
+use Rattle.desk_words.proofs.TableLemmas.{both_request-Is, account_balance_request-Is}
+use Rattle.desk_words.proofs.TableLemmas.{account_turnovers_request-Is, dr_cr_request-Is}
+use Rattle.desk_words.proofs.TableLemmas.{documents_question-Is}
 
 -- ---- a document's number and its key
 
@@ -216,22 +217,6 @@ sweep_request-Is object h =
       doc = d;
     })))
 
-balance_request-Is : (object : Members) → AreRead object
-    → IfOk (balance_request object) IsBalanceRequest
-unfolding balance_request
-balance_request-Is object h =
-    asked IsName IsBalanceRequest json_name json_name-IsName Clerk object h _ (λ clerk c.
-    asked IsName IsBalanceRequest json_name json_name-IsName Register_word object h _
-    (λ register r.
-    allowed IsCut IsBalanceRequest json_cut json_cut-IsCut Cut_word object h _ (λ cut u. record {
-      clerk = c;
-      register = r;
-      cut = u;
-      no_filter = refl;
-      no_group = refl;
-      no_tx = refl;
-    })))
-
 doc_question-Is : (object : Members) → AreRead object → IfOk (doc_question object) IsDocQuestion
 unfolding doc_question
 doc_question-Is object h =
@@ -279,6 +264,27 @@ members_of-Is PostStanding object h =
 members_of-Is Unpost_op object h =
     IfOk-then IsStandingDocument IsRequest (standing_document object)
     (λ r. Ok (Unpost_request r)) (standing_document-Is object h) (λ r is. is)
+members_of-Is Turnovers_op object h =
+    IfOk-then IsTurnovers IsRequest (turnovers_request object) (λ r. Ok (Turnovers_request r))
+    (turnovers_request-Is object h) (λ r is. is)
+members_of-Is Both_op object h =
+    IfOk-then IsBoth IsRequest (both_request object) (λ r. Ok (Both_request r))
+    (both_request-Is object h) (λ r is. is)
+members_of-Is Held_op object h =
+    IfOk-then IsAccountBalance IsRequest (account_balance_request object)
+    (λ r. Ok (Held_request r)) (account_balance_request-Is object h) (λ r is. is)
+members_of-Is Moved_op object h =
+    IfOk-then IsAccountTurnovers IsRequest (account_turnovers_request object)
+    (λ r. Ok (Moved_request r)) (account_turnovers_request-Is object h) (λ r is. is)
+members_of-Is Whole_op object h =
+    IfOk-then IsAccountTurnovers IsRequest (account_turnovers_request object)
+    (λ r. Ok (Whole_request r)) (account_turnovers_request-Is object h) (λ r is. is)
+members_of-Is DrCr_op object h =
+    IfOk-then IsDrCr IsRequest (dr_cr_request object) (λ r. Ok (DrCr_request r))
+    (dr_cr_request-Is object h) (λ r is. is)
+members_of-Is Documents_op object h =
+    IfOk-then IsDocumentsQuestion IsRequest (documents_question object)
+    (λ r. Ok (Documents_request r)) (documents_question-Is object h) (λ r is. is)
 
 request_in-Is : (object : Members) → AreRead object → IfOk (request_in object) IsRequest
 unfolding request_in

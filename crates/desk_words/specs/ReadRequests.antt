@@ -5,7 +5,6 @@ use Rattle.serde_json.specs.Data.{Members}
 use Rattle.reg_base.specs.Results.{◌>>=◌, unless, none_or}
 use Rattle.desk_words.specs.declared.fault.Member.TheVariants.{Clerk, No, Doc, Key, Kind, Date}
 use Rattle.desk_words.specs.declared.fault.Member.TheVariants.{Head, Lines, On, Sets, Comment}
-use Rattle.desk_words.specs.declared.fault.Member.TheVariants.{Register, Cut}
 use Rattle.desk_words.specs.declared.fault.WordFault.TheVariants.{BadMember}
 use Rattle.desk_words.specs.declared.request.Write.{Write}
 use Rattle.desk_words.specs.declared.request.StandingDocument.{StandingDocument}
@@ -13,11 +12,10 @@ use Rattle.desk_words.specs.declared.request.Switch.{Switch}
 use Rattle.desk_words.specs.declared.request.Manual.{Manual}
 use Rattle.desk_words.specs.declared.request.Close.{Close}
 use Rattle.desk_words.specs.declared.request.Sweep.{Sweep}
-use Rattle.desk_words.specs.declared.request.Balance.{Balance}
 use Rattle.desk_words.specs.declared.request.DocQuestion.{DocQuestion}
 use Rattle.desk_words.specs.Members.{content_members, first_present}
 use Rattle.desk_words.specs.Shapes.{OrFault, required_at, optional_at, json_name, json_code}
-use Rattle.desk_words.specs.Shapes.{json_number, json_date, json_cut, json_boolean, json_comment}
+use Rattle.desk_words.specs.Shapes.{json_number, json_date, json_boolean, json_comment}
 use Rattle.desk_words.specs.Sets.{json_sets}
 use Rattle.desk_words.specs.Fields.{json_fields, json_lines}
 
@@ -114,21 +112,6 @@ sweep_request object = do
   nr ← required_at json_number No object
   doc ← required_at json_number Doc object
   Ok (record { clerk = clerk; no = nr; doc = doc })
-
--- a question for a balance
-unfoldable pub balance_request : Members → OrFault Balance
-balance_request object = do
-  clerk ← required_at json_name Clerk object
-  register ← required_at json_name Register object
-  cut ← optional_at json_cut Cut object
-  Ok (record {
-    clerk = clerk;
-    register = register;
-    filter = None;
-    group = None;
-    cut = cut;
-    tx = None;
-  })
 
 -- a question for a document
 unfoldable pub doc_question : Members → OrFault DocQuestion

@@ -4,13 +4,13 @@ ghost use Rattle.reg_base.specs.Results.{Gives};
 ghost use Rattle.desk_words.specs.declared.fault.WordFault.TheVariants.{Memory};
 ghost use Rattle.desk_words.specs.ReadRequests.{key_beside, write_request, switch_request};
 ghost use Rattle.desk_words.specs.ReadRequests.{manual_request, close_request, sweep_request};
-ghost use Rattle.desk_words.specs.ReadRequests.{balance_request, doc_question, standing_document};
+ghost use Rattle.desk_words.specs.ReadRequests.{doc_question, standing_document};
 ghost use Rattle.desk_words.specs.ReadRequests.{standing_post};
 
 use crate::fault::{Member, WordFault};
 use crate::members::{content_members, first_present};
 use crate::parsed::Object;
-use crate::request::{Balance, Close, DocQuestion, Manual, StandingDocument, Sweep, Switch, Write};
+use crate::request::{Close, DocQuestion, Manual, StandingDocument, Sweep, Switch, Write};
 use crate::shapes::{read_member, read_optional};
 use reg_base::Code;
 use std::alloc::Global;
@@ -145,23 +145,6 @@ pub(crate) fn sweep_request(alloc: Global, object: &Object) -> Result<Sweep, Wor
     let no = read_member(alloc, Member::No, object)?;
     let doc = read_member(alloc, Member::Doc, object)?;
     Ok(Sweep { clerk, no, doc })
-}
-
-#[tactic(auto, unfolding(crate::specs::ReadRequests::balance_request))]
-pub(crate) fn balance_request(alloc: Global, object: &Object) -> Result<Balance, WordFault>
-    ensures { Gives Memory result (balance_request (members_view object.now.entries)) }
-{
-    let clerk = read_member(alloc, Member::Clerk, object)?;
-    let register = read_member(alloc, Member::Register, object)?;
-    let cut = read_optional(alloc, Member::Cut, object)?;
-    Ok(Balance {
-        clerk,
-        register,
-        filter: None,
-        group: None,
-        cut,
-        tx: None,
-    })
 }
 
 #[tactic(auto, unfolding(crate::specs::ReadRequests::doc_question))]

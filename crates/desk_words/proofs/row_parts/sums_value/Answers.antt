@@ -5,7 +5,7 @@ use Rattle.serde_json.specs.Data.{array}
 use Rattle.serde_json.specs.View.{items_of}
 use Rattle.desk_words.specs.JsonValues.{texts_data}
 use Rattle.desk_words.proofs.ReplyLemmas.{sum_texts-spent}
-use Rattle.desk_words.proofs.reply_values.sums_value.Goals as goal
+use Rattle.desk_words.proofs.row_parts.sums_value.Goals as goal
 
 pub returns : goal.returns
 unfolding texts_data

@@ -4,7 +4,7 @@ use Rattle.serde_json.specs.Data.{Data, string, array}
 use Rattle.serde_json.specs.View.{view, items_of}
 use Rattle.desk_words.specs.JsonValues.{texts_data}
 use Rattle.desk_words.specs.ReplyWords.{value_text}
-use Rattle.desk_words.proofs.reply_values.ListValueToJson.to_json.Goals as goal
+use Rattle.desk_words.proofs.row_parts.ListValueToJson.to_json.Goals as goal
 
 pub returns : goal.returns
 unfolding texts_data

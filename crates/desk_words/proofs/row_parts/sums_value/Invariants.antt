@@ -3,8 +3,8 @@ use Rattle.std.specs.Iterator.Adapters.{zip_first, zip_second}
 use Rattle.std.specs.Slice.Iter.{iter_rest}
 use Rattle.serde_json.specs.Data.{string}
 use Rattle.serde_json.specs.View.{view}
-use Rattle.desk_words.specs.ReplyTexts.{sum_texts}
-use Rattle.desk_words.proofs.reply_values.sums_value.Given as goal
+use Rattle.desk_words.specs.RowTexts.{sum_texts}
+use Rattle.desk_words.proofs.row_parts.sums_value.Given as goal
 
 abbrev pub invariant-sums : goal.invariant-sums
 invariant-sums l =
