@@ -36,7 +36,7 @@ impl Desk {
         ensures { IfOk result (Comes self.now.desk
             (or_stop (deed_at self.now.desk (RequestIs.Balance question.now)))) }
     {
-        answered(answer_balance(alloc, &self.config, self.walk(), question))
+        answered(answer_balance(alloc, self.config(), self.walk(), question))
     }
 
     pub(crate) fn turnovers_outcome(
@@ -47,14 +47,14 @@ impl Desk {
         ensures { IfOk result (Comes self.now.desk
             (or_stop (deed_at self.now.desk (RequestIs.Turnovers question.now)))) }
     {
-        answered(answer_turnovers(alloc, &self.config, self.walk(), question))
+        answered(answer_turnovers(alloc, self.config(), self.walk(), question))
     }
 
     pub(crate) fn both_outcome(&self, alloc: Global, question: &Both) -> Result<Outcome, Memory>
         ensures { IfOk result (Comes self.now.desk
             (or_stop (deed_at self.now.desk (RequestIs.Both question.now)))) }
     {
-        answered(answer_both(alloc, &self.config, self.walk(), question))
+        answered(answer_both(alloc, self.config(), self.walk(), question))
     }
 
     pub(crate) fn account_balance_outcome(
@@ -65,7 +65,7 @@ impl Desk {
         ensures { IfOk result (Comes self.now.desk
             (or_stop (deed_at self.now.desk (RequestIs.AccountBalance question.now)))) }
     {
-        answered(answer_account_balance(alloc, &self.config, self.walk(), question))
+        answered(answer_account_balance(alloc, self.config(), self.walk(), question))
     }
 
     pub(crate) fn account_turnovers_outcome(
@@ -76,7 +76,7 @@ impl Desk {
         ensures { IfOk result (Comes self.now.desk
             (or_stop (deed_at self.now.desk (RequestIs.AccountTurnovers question.now)))) }
     {
-        answered(answer_account_turnovers(alloc, &self.config, self.walk(), question))
+        answered(answer_account_turnovers(alloc, self.config(), self.walk(), question))
     }
 
     pub(crate) fn account_both_outcome(
@@ -87,14 +87,14 @@ impl Desk {
         ensures { IfOk result (Comes self.now.desk
             (or_stop (deed_at self.now.desk (RequestIs.AccountBoth question.now)))) }
     {
-        answered(answer_account_both(alloc, &self.config, self.walk(), question))
+        answered(answer_account_both(alloc, self.config(), self.walk(), question))
     }
 
     pub(crate) fn pairs_outcome(&self, alloc: Global, question: &DrCr) -> Result<Outcome, Memory>
         ensures { IfOk result (Comes self.now.desk
             (or_stop (deed_at self.now.desk (RequestIs.DrCr question.now)))) }
     {
-        answered(answer_pairs(alloc, &self.config, self.walk(), question))
+        answered(answer_pairs(alloc, self.config(), self.walk(), question))
     }
 
     pub(crate) fn documents_outcome(
@@ -105,7 +105,7 @@ impl Desk {
         ensures { IfOk result (Comes self.now.desk
             (or_stop (deed_at self.now.desk (RequestIs.Documents question.now)))) }
     {
-        answered(answer_documents(alloc, &self.config, &self.store, question))
+        answered(answer_documents(alloc, self.config(), &self.store, question))
     }
 
     pub(crate) fn show_outcome(
