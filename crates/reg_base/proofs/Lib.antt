@@ -9,6 +9,8 @@ pub mod ForTables
 mod KeyLemmas
 mod NumberLemmas
 mod OnceLemmas
+mod OpeningLaws
+mod OpeningLemmas
 mod OrderLemmas
 mod PartitionLemmas
 mod PermutationLemmas
