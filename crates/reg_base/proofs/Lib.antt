@@ -1,5 +1,6 @@
 mod BalanceLemmas
 mod BalanceRows
+mod BetweenLemmas
 mod CodeLemmas
 mod DateTextLemmas
 mod DayLemmas

@@ -1,7 +1,7 @@
 -- Each row of balances with turnovers opens with the balance before the range and lower units.
 use Rattle.std.proofs.Common.{◌≡◌, ℕ, ℤ, pos, ◌+ℤ◌, ◌≤◌, Bool, true, false, cond, ◌&&◌, nat_le}
 use Rattle.std.proofs.Common.{Option, List, [], ◌∷◌, ◌++◌, map, refl, ap, sym, ◌∙◌, arith}
-use Rattle.std.specs.List.{filter, flat_map, range_with_len, All, AllByRecursion}
+use Rattle.std.specs.List.{flat_map, range_with_len, All, AllByRecursion}
 use Rattle.std.specs.Ordering.{is_eq, is_lt}
 use Rattle.std.specs.declared.cmp.Ordering.{Ordering}
 use Rattle.std.specs.Cmp.{IsTotalOrder}
@@ -20,12 +20,11 @@ use Rattle.reg_base.specs.declared.tables.Range.{Range}
 use Rattle.reg_base.specs.declared.tables.Method.{Method}
 use Rattle.reg_base.specs.declared.tables.Method.TheVariants.{Movements}
 use Rattle.reg_base.specs.declared.tables.Method.TheVariants.{MovementsAndPeriodBoundaries}
-use Rattle.reg_base.specs.declared.tables.Row.{Row}
-use Rattle.reg_base.specs.Records.{Booked, values_cmp, amount_at, put_once, chosen_records}
+use Rattle.reg_base.specs.Records.{Booked, values_cmp, amount_at, chosen_records}
 use Rattle.reg_base.specs.Records.{records_within}
 use Rattle.reg_base.specs.Balances.{group_of, groups_of, total}
 use Rattle.reg_base.specs.Sums.{sum_over, in_order_once, plus_each}
-use Rattle.reg_base.specs.Turnovers.{RowKey, key_cmp, key_of, unit_cmp, unit_of, unit_of_date}
+use Rattle.reg_base.specs.Turnovers.{RowKey, key_of, unit_cmp, unit_of, unit_of_date}
 use Rattle.reg_base.specs.Turnovers.{in_range}
 use Rattle.reg_base.specs.Turnovers.{edge_units, both_keys, both_row, stands, both_rows}
 use Rattle.reg_base.specs.Turnovers.{balance_and_turnovers_of}

@@ -1,16 +1,16 @@
 -- The opening of a row is the balance before the range and what the lower units of the range moved.
 use Rattle.std.proofs.Common.{◌≡◌, ℕ, ℤ, pos, ◌+ℤ◌, ◌<◌, ◌≤◌, Bool, true, false, cond, ◌&&◌, ◌||◌}
-use Rattle.std.proofs.Common.{nat_lt, nat_le, max, inl, inr, Option, List, [], ◌∷◌, refl, ap, ◌∙◌}
+use Rattle.std.proofs.Common.{nat_lt, nat_le, max, inl, inr, Option, List, refl, ap, ◌∙◌}
 use Rattle.std.proofs.Common.{sym, arith}
 use Rattle.std.specs.List.{filter}
 use Rattle.std.specs.Ordering.{ordering_then, is_lt, nat_cmp}
 use Rattle.std.specs.declared.cmp.Ordering.{Ordering}
 use Rattle.std.specs.declared.cmp.Ordering.TheVariants.{Less, Equal, Greater}
-use Rattle.std.proofs.lemmas.Bool.{cases_lt, lt-ltb, le-ltb, le-leb, lt-leb}
+use Rattle.std.proofs.lemmas.Bool.{cases_lt}
 use Rattle.std.proofs.lemmas.Bool.Decides.{nat_tests}
 use Rattle.std.proofs.lemmas.Int.{ints}
 use Rattle.reg_base.specs.declared.value.Value.{Value}
-use Rattle.reg_base.specs.declared.cut.Cut.TheVariants.{BeforeDate, BeforePoint}
+use Rattle.reg_base.specs.declared.cut.Cut.TheVariants.{BeforeDate}
 use Rattle.reg_base.specs.declared.tables.Periodicity.{Periodicity}
 use Rattle.reg_base.specs.declared.tables.Periodicity.TheVariants.{Period, Record, Recorder, Day}
 use Rattle.reg_base.specs.declared.tables.Periodicity.TheVariants.{Week, TenDays, Month, Quarter}
@@ -18,14 +18,13 @@ use Rattle.reg_base.specs.declared.tables.Periodicity.TheVariants.{HalfYear, Yea
 use Rattle.reg_base.specs.declared.tables.Unit.{Unit as TableUnit}
 use Rattle.reg_base.specs.declared.tables.Unit.TheVariants.{Whole, Start, At, Line}
 use Rattle.reg_base.specs.declared.tables.Range.{Range}
-use Rattle.reg_base.specs.Points.{point_cmp}
 use Rattle.reg_base.specs.Cuts.{inside}
 use Rattle.reg_base.specs.Records.{Booked, point_of, records_within}
 use Rattle.reg_base.specs.Balances.{contribution, total}
 use Rattle.reg_base.specs.Sums.{sum_over}
-use Rattle.reg_base.specs.Units.{unit_start, are_dates, IsStart}
+use Rattle.reg_base.specs.Units.{unit_start, are_dates}
 use Rattle.reg_base.specs.Turnovers.{unit_cmp, unit_of_date, unit_of, in_range, before_unit}
-use Rattle.reg_base.specs.TableLaws.{is_before, is_in, is_lower, are_periods, SplitsRange}
+use Rattle.reg_base.specs.TableLaws.{is_before, is_in, are_periods, SplitsRange}
 use Rattle.reg_base.proofs.SumLemmas.{sum_over-passed, sum_over-plus, sum_over-same}
 use Rattle.reg_base.proofs.TableOrder.{total-sum_over}
 use Rattle.reg_base.proofs.UnitLaws.{unit_start-is, unit_start-le, unit_start-lt}
