@@ -29,8 +29,9 @@ use Rattle.reg_base.specs.Records.{records_of, matches, in_order}
 use Rattle.reg_base.specs.Balances.{group_of, groups_of, contribution, total, sum_rows, balance_of}
 use Rattle.reg_base.specs.declared.tables.Periodicity.{Periodicity}
 use Rattle.reg_base.specs.Units.{unit_start, next_unit, are_dates, IsStart, IsUnitStart, IsNextUnit}
-use Rattle.reg_base.specs.Units.{IsLastUnit}
+use Rattle.reg_base.specs.Units.{IsLastUnit, starts_between}
 use Rattle.reg_base.proofs.ResultLemmas as results
+use Rattle.reg_base.proofs.BetweenLemmas as between
 use Rattle.reg_base.proofs.CodeLemmas as spellings
 use Rattle.reg_base.proofs.NumberLemmas as numbers
 use Rattle.reg_base.proofs.DigitLemmas as digits
@@ -163,6 +164,25 @@ next_unit-is = units.next_unit-is
 pub next_unit-None : (by : Periodicity) (date : ℕ)
     → (next_unit by date ≡ None) ↔ IsLastUnit by date
 next_unit-None = units.next_unit-None
+
+-- the starts between two dates, one after the other
+pub starts_between-first : (by : Periodicity) (from to : ℕ) → are_dates by ≡ true
+    → starts_between by from to ≡ starts_between by (unit_start by from) to
+starts_between-first = between.starts_between-first
+
+pub starts_between-none : (by : Periodicity) (start to : ℕ) → IsStart by start → to < start
+    → starts_between by start to ≡ []
+starts_between-none = between.starts_between-none
+
+pub starts_between-next : (by : Periodicity) (start to next : ℕ) → IsStart by start → start ≤ to
+    → next_unit by start ≡ Some next
+    → starts_between by start to ≡ start ∷ starts_between by next to
+starts_between-next = between.starts_between-next
+
+pub starts_between-last : (by : Periodicity) (start to : ℕ) → IsStart by start → start ≤ to
+    → to < 3_155_760_000 → next_unit by start ≡ None
+    → starts_between by start to ≡ start ∷ []
+starts_between-last = between.starts_between-last
 
 -- ---- texts that are UTF-8
 

@@ -1,11 +1,12 @@
 -- For the crates above: the lemmas on sums over lists, distinct keys in order, and tables.
-use Rattle.std.proofs.Common.{◌≡◌, ℕ, ℤ, pos, ◌+ℤ◌, Bool, false, cond, ◌||◌, Option, List}
+use Rattle.std.proofs.Common.{◌≡◌, ◌≤◌, ℕ, ℤ, pos, ◌+ℤ◌, Bool, false, cond, ◌||◌, Option, List}
 use Rattle.std.proofs.Common.{◌∷◌, ◌++◌, map}
+use Rattle.std.proofs.Common.{true}
 use Rattle.std.specs.Prelude.{IsPermutation}
 use Rattle.std.specs.List.{filter, flat_map, list_any, AllByRecursion}
 use Rattle.std.specs.List.Sorted.{IsStrictlySortedBy}
 use Rattle.std.specs.Cmp.{IsTotalOrder}
-use Rattle.std.specs.Ordering.{is_eq}
+use Rattle.std.specs.Ordering.{is_eq, is_lt}
 use Rattle.std.specs.declared.cmp.Ordering.{Ordering}
 use Rattle.std.proofs.lemmas.Map.Lookups.{CmpEqualImpliesEq}
 use Rattle.reg_base.specs.declared.value.Value.{Value}
@@ -16,13 +17,20 @@ use Rattle.reg_base.specs.declared.tables.Range.{Range}
 use Rattle.reg_base.specs.declared.tables.Method.{Method}
 use Rattle.reg_base.specs.contracts.tables.UnitOrd.TheImpl.{ghosts}
 use Rattle.reg_base.specs.Records.{Booked, put_once, booked_by, records_of}
+use Rattle.reg_base.specs.Records.{records_within}
+use Rattle.reg_base.specs.declared.cut.Cut.TheVariants.{BeforeDate}
 use Rattle.reg_base.specs.Balances.{groups_of, contribution, total}
 use Rattle.reg_base.specs.BookedEntries.{entered_by, entries_of}
 use Rattle.reg_base.specs.Sums.{sum_over, in_order_once}
-use Rattle.reg_base.specs.Turnovers.{unit_cmp, key_cmp, turnovers_of, balance_and_turnovers_of}
+use Rattle.reg_base.specs.Turnovers.{RowKey, unit_cmp, key_cmp, unit_of_date, unit_of, in_range}
+use Rattle.reg_base.specs.Turnovers.{before_unit, both_keys, turnovers_of}
+use Rattle.reg_base.specs.Turnovers.{balance_and_turnovers_of}
+use Rattle.reg_base.specs.TableLaws.{is_before, are_periods, SplitsRange}
 use Rattle.reg_base.proofs.BalanceLemmas as balances
 use Rattle.reg_base.proofs.KeyLemmas as keys
 use Rattle.reg_base.proofs.OnceLemmas as onces
+use Rattle.reg_base.proofs.OpeningLaws as laws
+use Rattle.reg_base.proofs.OpeningLemmas as openings
 use Rattle.reg_base.proofs.PartitionLemmas as partitions
 use Rattle.reg_base.proofs.PermutationLemmas as permutations
 use Rattle.reg_base.proofs.SumLemmas as totals
@@ -164,6 +172,44 @@ total-sum_over = tables.total-sum_over
 pub total-permutation : (by : Option (List ℕ)) (group : List Value) (j : ℕ) (xs ys : List Booked)
     → IsPermutation xs ys → total by group xs j ≡ total by group ys j
 total-permutation = tables.total-permutation
+
+-- the records before a unit are those that pass a test
+pub before_unit-filter : (range : Range) (unit : TableUnit) (bs : List Booked)
+    → before_unit range unit bs ≡ filter (is_before range unit) bs
+before_unit-filter = openings.before_unit-filter
+
+-- the unit of a date of the range, and that of a record of the range, splits the range
+pub SplitsRange-date : (range : Range) (date : ℕ) → range.from ≤ date → date ≤ range.to
+    → are_periods range.by ≡ true → SplitsRange range (unit_of_date range.by date)
+SplitsRange-date = openings.SplitsRange-date
+
+pub SplitsRange-record : (range : Range) (c : Booked) → range.from ≤ c.rec.period
+    → c.rec.period ≤ range.to → SplitsRange range (unit_of range.by c)
+SplitsRange-record = openings.SplitsRange-record
+
+-- so do the units of all keys of a table
+pub keys-split : (group : Option (List ℕ)) (range : Range) (method : Method)
+    (records : List Booked) → range.from ≤ range.to
+    → AllByRecursion (λ (key : RowKey). SplitsRange range key.unit)
+    (both_keys group range method records)
+keys-split = laws.keys-split
+
+-- the sum over the records before such a unit is that before the range, and that of lower units
+pub sum_over-before : (range : Range) (unit : TableUnit) → SplitsRange range unit
+    → (f : Booked → ℤ) (bs : List Booked)
+    → sum_over f (before_unit range unit bs)
+    ≡ sum_over f (records_within (BeforeDate range.from) bs)
+    +ℤ sum_over (λ b. cond (is_lt (unit_cmp (unit_of range.by b) unit)) (f b) (pos 0))
+    (in_range range bs)
+sum_over-before = openings.sum_over-before
+
+pub total-before : (range : Range) (unit : TableUnit) → SplitsRange range unit
+    → (by : Option (List ℕ)) (group : List Value) (j : ℕ) (bs : List Booked)
+    → total by group (before_unit range unit bs) j
+    ≡ total by group (records_within (BeforeDate range.from) bs) j
+    +ℤ sum_over (λ b. cond (is_lt (unit_cmp (unit_of range.by b) unit))
+    (contribution by group j b) (pos 0)) (in_range range bs)
+total-before = openings.total-before
 
 -- tables over records in another order
 pub turnovers_of-permutation : (balances : Bool) (n : ℕ) (asked : Filter)

@@ -1,5 +1,6 @@
 mod BalanceLemmas
 mod BalanceRows
+mod BetweenLemmas
 mod CodeLemmas
 mod DateTextLemmas
 mod DayLemmas
@@ -10,6 +11,8 @@ mod InOrderLemmas
 mod KeyLemmas
 mod NumberLemmas
 mod OnceLemmas
+mod OpeningLaws
+mod OpeningLemmas
 mod OrderLemmas
 mod PartitionLemmas
 mod PermutationLemmas

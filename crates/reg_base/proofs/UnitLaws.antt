@@ -8,10 +8,10 @@ use Rattle.reg_base.specs.Units.{IsStart, IsUnitStart, IsNextUnit, IsLastUnit, a
 use Rattle.reg_base.proofs.UnitLemmas.{start_day-le, start_day-starts, start_day-greatest}
 use Rattle.reg_base.proofs.UnitLemmas.{start_day-monotone, find-Some, find-None}
 
-whole_days : (day : ℕ) → 86_400 * day / 86_400 ≡ day
+pub whole_days : (day : ℕ) → 86_400 * day / 86_400 ≡ day
 whole_days day = omega arith
 
-IsStart-midnight : (by : Periodicity) (day : ℕ) → starts_unit by day ≡ true
+pub IsStart-midnight : (by : Periodicity) (day : ℕ) → starts_unit by day ≡ true
     → IsStart by (midnight day)
 IsStart-midnight by day starts = record {
   first_second = ap midnight (whole_days day);

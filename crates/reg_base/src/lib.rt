@@ -73,7 +73,7 @@ pub use scale::Scale;
 pub use shares::share;
 pub use sums::{print_sum, sum_string};
 pub use table_laws::{
-    rows_close, rows_stand_in_order, tables_take_records_in_any_order, turnovers_add_up,
+    rows_open_and_close, rows_stand_in_order, tables_take_records_in_any_order, turnovers_add_up,
 };
 pub use tables::{
     AccountRow, AskedList, Method, PairRow, Periodicity, ROW_LIMIT, Range, Row, Unit,

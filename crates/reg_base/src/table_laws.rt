@@ -1,6 +1,6 @@
-//! Laws of tables: they do not depend on the order of the records, their rows close, and rows of
-//! smaller units come to those of the whole range.
-ghost use Rattle.std.specs.Prelude.{◌≡◌, ℕ, ℤ, Bool, List, Option, IsPermutation};
+//! Laws of tables: they do not depend on the order of the records, their rows open and close, and
+//! rows of smaller units come to those of the whole range.
+ghost use Rattle.std.specs.Prelude.{◌≡◌, ◌≤◌, ℕ, ℤ, Bool, List, Option, IsPermutation};
 ghost use Rattle.std.specs.List.{All, flat_map};
 ghost use Rattle.std.specs.Cmp.{IsTotalOrder};
 ghost use Rattle.std.specs.declared.cmp.Ordering.TheVariants.{Equal};
@@ -9,11 +9,11 @@ ghost use Rattle.reg_base.specs.declared.records.Filter.{Filter};
 ghost use Rattle.reg_base.specs.declared.tables.Unit.{Unit};
 ghost use Rattle.reg_base.specs.declared.tables.Range.{Range};
 ghost use Rattle.reg_base.specs.declared.tables.Method.{Method};
-ghost use Rattle.reg_base.specs.Records.{Booked};
+ghost use Rattle.reg_base.specs.Records.{Booked, chosen_records};
 ghost use Rattle.reg_base.specs.BookedEntries.{entered_by, entries_of};
 ghost use Rattle.reg_base.specs.Turnovers.{RowKey, unit_cmp, key_cmp};
 ghost use Rattle.reg_base.specs.Turnovers.{turnovers_of, balance_and_turnovers_of};
-ghost use Rattle.reg_base.specs.TableLaws.{Closes, UnitsAddUp};
+ghost use Rattle.reg_base.specs.TableLaws.{Opens, Closes, UnitsAddUp};
 
 use crate::tables::Unit;
 
@@ -32,10 +32,15 @@ pub fn tables_take_records_in_any_order()
         IsPermutation (flat_map (entered_by ledger) documents) (entries_of ledger documents) }
 {}
 
-/// A law: the closing of each row of balances with turnovers is its opening plus its turnover.
-pub fn rows_close()
-    ensures { (resources : ℕ) (records : List Booked) (asked : Filter) (by : Option (List ℕ))
-        (range : Range) (method : Method)
+/// A law: the closing of each row of balances with turnovers is its opening plus its turnover, and
+/// its opening is the balance of its group before the range, with what lower units moved.
+pub fn rows_open_and_close()
+    ensures opening { (resources : ℕ) (records : List Booked) (asked : Filter)
+        (by : Option (List ℕ)) (range : Range) (method : Method) → range.from ≤ range.to
+        → All (Opens resources by range (chosen_records asked records))
+        (balance_and_turnovers_of resources records asked by range method) }
+    ensures closing { (resources : ℕ) (records : List Booked) (asked : Filter)
+        (by : Option (List ℕ)) (range : Range) (method : Method)
         → All Closes (balance_and_turnovers_of resources records asked by range method) }
 {}
 
