@@ -2,9 +2,10 @@
 use Rattle.std.proofs.Common.{◌≡◌, ℕ, ◌+◌, ◌*◌, ◌%◌, ◌^◌, ◌<◌, ◌&&◌, min, ◌+ℤ◌, Bool, true, false}
 use Rattle.std.proofs.Common.{◌≤◌, ◌↔◌, Some, None}
 use Rattle.std.proofs.Common.{nat_lt, Option, IfSome, List, [], ◌∷◌, ◌++◌, length, get_or, IsUtf8}
-use Rattle.std.proofs.Common.{Result, Ok, IfOk}
-use Rattle.std.specs.Prelude.{filter}
-use Rattle.std.specs.List.{list_all, flat_map, prefix_len, AllByRecursion}
+use Rattle.std.proofs.Common.{Result, Ok, IfOk, ℤ, pos, cond, map}
+use Rattle.std.specs.Prelude.{filter, IsPermutation}
+use Rattle.std.specs.List.{list_all, list_any, flat_map, prefix_len, AllByRecursion}
+use Rattle.std.specs.Ordering.{is_eq}
 use Rattle.std.specs.List.Sorted.{IsStrictlySortedBy}
 use Rattle.std.specs.Char.{is_ascii_digit}
 use Rattle.std.specs.Fmt.{decimal}
@@ -23,7 +24,8 @@ use Rattle.reg_base.specs.Numbers.{read_on, decimal_value, last_digits, number_t
 use Rattle.reg_base.specs.Dates.{parse_date, parse_date_end, date_text}
 use Rattle.reg_base.specs.Cuts.{IsCut, inside, parse_cut, cut_text}
 use Rattle.reg_base.specs.Records.{Booked, value_cmp, values_cmp, put_once, point_of, booked_by}
-use Rattle.reg_base.specs.Records.{records_of, matches}
+use Rattle.reg_base.specs.Records.{records_of, matches, in_order}
+use Rattle.reg_base.specs.Sums.{sum_over, in_order_once}
 use Rattle.reg_base.specs.Balances.{group_of, groups_of, contribution, total, sum_rows, balance_of}
 use Rattle.reg_base.specs.declared.tables.Periodicity.{Periodicity}
 use Rattle.reg_base.specs.Units.{unit_start, next_unit, are_dates, IsStart, IsUnitStart, IsNextUnit}
@@ -41,6 +43,9 @@ use Rattle.reg_base.proofs.Utf8Lemmas as utf8
 use Rattle.reg_base.proofs.OrderLemmas as orders
 use Rattle.reg_base.proofs.OnceLemmas as onces
 use Rattle.reg_base.proofs.BalanceLemmas as balances
+use Rattle.reg_base.proofs.PermutationLemmas as permutations
+use Rattle.reg_base.proofs.SumLemmas as sums_over
+use Rattle.reg_base.proofs.PartitionLemmas as partitions
 
 -- ---- readers that go on step by step
 
@@ -224,3 +229,51 @@ pub balance_of-records_of : (n register : ℕ) (documents : List Document) (aske
     ≡ sum_rows n by (filter (λ b. matches asked b.rec.values && inside cut (point_of b))
     (flat_map (booked_by register) documents))
 balance_of-records_of = balances.balance_of-records_of
+
+-- ---- the same elements in another order
+
+-- the elements of a list in order are those of the list
+pub IsPermutation-in_order : {X : Type 0} (cmp : X → X → Ordering) (xs : List X)
+    → IsPermutation xs (in_order cmp xs)
+IsPermutation-in_order = permutations.IsPermutation-in_order
+
+-- the elements that pass a test are the same in any order
+pub IsPermutation-filter : {X : Type 0} (p : X → Bool) (xs ys : List X) → IsPermutation xs ys
+    → IsPermutation (filter p xs) (filter p ys)
+IsPermutation-filter = permutations.IsPermutation-filter
+
+-- a value that does not look at the order of the two elements in front looks at no order
+pub value-permutation : {X Y : Type 0} (value : List X → Y)
+    → ((x : X) (xs ys : List X) → value xs ≡ value ys → value (x ∷ xs) ≡ value (x ∷ ys))
+    → ((x y : X) (xs : List X) → value (x ∷ y ∷ xs) ≡ value (y ∷ x ∷ xs))
+    → (xs ys : List X) → IsPermutation xs ys → value xs ≡ value ys
+value-permutation = permutations.value-permutation
+
+-- a sum may be taken in any order
+pub sum_over-permutation : {X : Type 0} (f : X → ℤ) (xs ys : List X) → IsPermutation xs ys
+    → sum_over f xs ≡ sum_over f ys
+sum_over-permutation = sums_over.sum_over-permutation
+
+-- ---- the distinct elements of a list in order
+
+module _ {K : Type 0} {R : K → K → Ordering} (o : IsTotalOrder R) (exact : CmpEqualImpliesEq R) where
+  -- they rise
+  pub in_order_once-rising : (ks : List K) → IsStrictlySortedBy R (in_order_once R ks)
+  in_order_once-rising = partitions.in_order_once-rising o exact
+
+  -- they are those of the list in any order
+  pub in_order_once-permutation : (xs ys : List K) → IsPermutation xs ys
+      → in_order_once R xs ≡ in_order_once R ys
+  in_order_once-permutation = partitions.in_order_once-permutation o exact
+
+  -- one of them passes a test where one of the list does
+  pub any-in_order_once : (test : K → Bool) (ks : List K)
+      → list_any test (in_order_once R ks) ≡ list_any test ks
+  any-in_order_once = partitions.any-in_order_once o exact
+
+  -- what each element adds at the keys of the list, it adds once
+  pub sum_over-partition : {X : Type 0} (key : X → K) (f : X → K → ℤ) (xs : List X)
+      → sum_over (λ k. sum_over (λ x. cond (is_eq (R (key x) k)) (f x k) (pos 0)) xs)
+      (in_order_once R (map key xs))
+      ≡ sum_over (λ x. f x (key x)) xs
+  sum_over-partition = partitions.sum_over-partition o exact
