@@ -15,4 +15,5 @@ mod BalanceLemmas
 pub mod LeafLemmas
 mod LedgerLemmas
 pub mod SumLemmas
+mod WorkedAccounts
 mod WorkedRows

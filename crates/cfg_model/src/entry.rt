@@ -1,5 +1,5 @@
 //! Whether a chart of accounts accepts an entry.
-ghost use Rattle.std.specs.Prelude.{◌≡◌, is_some, option_map};
+ghost use Rattle.std.specs.Prelude.{◌≡◌, option_map};
 ghost use Rattle.std.specs.List.{list_any};
 ghost use Rattle.cfg_model.specs.Places.{account_at as at_code};
 ghost use Rattle.cfg_model.specs.Entries.{entry_check, of_side, has_account, is_leaf, has_extras};
@@ -33,24 +33,11 @@ pub fn check_entry(
 }
 
 impl Chart {
-    /// Whether the chart has an account of this code.
-    pub fn has_account(&self, code: &Code) -> bool
-        ensures { result ≡ is_some (at_code code.now self.now.accounts) }
-    {
-        account_at(self.accounts.as_slice(), code).is_some()
-    }
-
-    fn account(&self, side: &Side) -> Option<&Account>
-        ensures { option_map (λ a. a.now) result ≡ at_code side.now.account self.now.accounts }
-    {
-        account_at(self.accounts.as_slice(), &side.account)
-    }
-
     fn has_account_of(&self, side: &Option<Side>) -> bool
         ensures { result ≡ of_side (has_account self.now) side.now }
     {
         match side {
-            Some(side) => self.account(side).is_some(),
+            Some(side) => self.account(&side.account).is_some(),
             None => true,
         }
     }
@@ -85,7 +72,7 @@ impl Chart {
     fn has_extras(&self, side: &Side) -> bool
         ensures { result ≡ has_extras self.now side.now }
     {
-        match self.account(side) {
+        match self.account(&side.account) {
             Some(account) => side.extras.len() == account.extras.len(),
             None => false,
         }
@@ -106,7 +93,7 @@ impl Chart {
     fn is_off_balance(&self, side: &Side) -> bool
         ensures { result ≡ is_off_balance self.now side.now }
     {
-        match self.account(side) {
+        match self.account(&side.account) {
             Some(account) => account.off,
             None => false,
         }
@@ -123,9 +110,9 @@ fn has_parent(account: &Account, code: &Code) -> bool
     }
 }
 
-// The first account of a code.
+/// The first account of a code.
 #[tactic(auto, unfolding(crate::specs::Places::account_at))]
-fn account_at<'a>(accounts: &'a [Account], code: &Code) -> Option<&'a Account>
+pub(crate) fn account_at<'a>(accounts: &'a [Account], code: &Code) -> Option<&'a Account>
     ensures { option_map (λ a. a.now) result ≡ at_code code.now accounts.now }
 {
     'accounts: for account in accounts {

@@ -12,6 +12,7 @@
 
 mod account;
 mod accounts;
+mod below;
 mod clerk;
 mod config;
 mod element;

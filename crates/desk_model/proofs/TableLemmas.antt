@@ -59,9 +59,9 @@ use Rattle.desk_model.specs.Serial.{effect_of}
 use Rattle.desk_model.specs.Clerks.{is_clerk, is_allowed, is_batch}
 use Rattle.desk_model.specs.Desk.{meaning_at, command_at, event_of, step}
 use Rattle.desk_model.specs.Answers.{refusal_event, event_of_reading, line_event, desk_after}
-use Rattle.desk_model.specs.Tables.{Asks, AsksLedger, IsShort, IsBalance, IsTurnovers, IsBoth}
-use Rattle.desk_model.specs.Tables.{IsAccountBalance, IsAccountTurnovers, IsAccountBoth, IsPairs}
-use Rattle.desk_model.specs.Tables.{IsDocuments, IsTable}
+use Rattle.desk_model.specs.Tables.{Asks, AsksLedger, IsShort, IsBalanceTable, IsTurnoversTable, IsBothTable}
+use Rattle.desk_model.specs.Tables.{IsAccountBalanceTable, IsAccountTurnoversTable, IsAccountBothTable, IsPairsTable}
+use Rattle.desk_model.specs.Tables.{IsDocumentsTable, IsTable}
 use Rattle.desk_model.specs.Laws.{TablesHold}
 
 -- ---- rows that answer
@@ -259,7 +259,7 @@ module _ (desk : Desk) (ledger : List ℕ) (account : Option (List ℕ))
 
 balance-table : (desk : Desk) (b : BalanceRequest) (answer : Answer)
     → question_answer desk.serial.documents (question_balance desk.setting.config b) ≡ Ok answer
-    → IsBalance desk b answer
+    → IsBalanceTable desk b answer
 unfolding question_balance
 balance-table desk b answer h =
     let a = about-answers desk b.register (λ register. register.balance)
@@ -276,7 +276,7 @@ balance-table desk b answer h =
 
 turnovers-table : (desk : Desk) (t : TurnoversRequest) (answer : Answer)
     → question_answer desk.serial.documents (question_turnovers desk.setting.config t) ≡ Ok answer
-    → IsTurnovers desk t answer
+    → IsTurnoversTable desk t answer
 unfolding question_turnovers
 turnovers-table desk t answer h =
     let a = about-answers desk t.register (λ register. true)
@@ -294,7 +294,7 @@ turnovers-table desk t answer h =
 
 both-table : (desk : Desk) (b : BothRequest) (answer : Answer)
     → question_answer desk.serial.documents (question_both desk.setting.config b) ≡ Ok answer
-    → IsBoth desk b answer
+    → IsBothTable desk b answer
 unfolding question_both
 both-table desk b answer h =
     let range = range_of b.turnovers.dates b.turnovers.by in
@@ -312,7 +312,7 @@ both-table desk b answer h =
 
 account_balance-table : (desk : Desk) (b : AccountBalanceRequest) (answer : Answer)
     → question_answer desk.serial.documents (question_account_balance desk.setting.config b) ≡ Ok answer
-    → IsAccountBalance desk b answer
+    → IsAccountBalanceTable desk b answer
 unfolding question_account_balance
 account_balance-table desk b answer h =
     let a = on-answers desk b.accounts.ledger b.accounts.account
@@ -329,7 +329,7 @@ account_balance-table desk b answer h =
 
 account_turnovers-table : (desk : Desk) (t : AccountRequest) (answer : Answer)
     → question_answer desk.serial.documents (question_account_turnovers desk.setting.config t) ≡ Ok answer
-    → IsAccountTurnovers desk t answer
+    → IsAccountTurnoversTable desk t answer
 unfolding question_account_turnovers
 account_turnovers-table desk t answer h =
     let a = on-answers desk t.accounts.ledger t.accounts.account
@@ -346,7 +346,7 @@ account_turnovers-table desk t answer h =
 
 account_both-table : (desk : Desk) (t : AccountRequest) (answer : Answer)
     → question_answer desk.serial.documents (question_account_both desk.setting.config t) ≡ Ok answer
-    → IsAccountBoth desk t answer
+    → IsAccountBothTable desk t answer
 unfolding question_account_both
 account_both-table desk t answer h =
     let a = on-answers desk t.accounts.ledger t.accounts.account
@@ -363,7 +363,7 @@ account_both-table desk t answer h =
 
 pairs-table : (desk : Desk) (q : PairsRequest) (answer : Answer)
     → question_answer desk.serial.documents (question_pairs desk.setting.config q) ≡ Ok answer
-    → IsPairs desk q answer
+    → IsPairsTable desk q answer
 unfolding question_pairs
 pairs-table desk q answer h =
     let a = on-answers desk q.ledger q.account
@@ -380,7 +380,7 @@ pairs-table desk q answer h =
 
 documents-table : (desk : Desk) (q : DocumentsQuestion) (answer : Answer)
     → question_answer desk.serial.documents (question_documents desk.setting.config q) ≡ Ok answer
-    → IsDocuments desk q answer
+    → IsDocumentsTable desk q answer
 unfolding question_answer answer_to
 documents-table desk q answer h =
     let rows = rows_between desk.setting.config (range_of q.dates None) desk.serial.documents in

@@ -61,7 +61,7 @@ pub record Asks (desk : Desk) (asked : AskedRegister) (has_table : Register → 
   pub known : wrong_name register lists asked.group ≡ None
 
 -- the answer is the balance of the records that there are, a scale for each resource
-pub record IsBalance (desk : Desk) (b : BalanceRequest) (answer : Answer) : Type 0 where
+pub record IsBalanceTable (desk : Desk) (b : BalanceRequest) (answer : Answer) : Type 0 where
   pub asks : Asks desk b.register (λ register. register.balance)
   pub rows : List SumRow
   pub rows_are : rows ≡ balance_of (length asks.register.resources)
@@ -71,7 +71,7 @@ pub record IsBalance (desk : Desk) (b : BalanceRequest) (answer : Answer) : Type
   pub answer_is : answer ≡ AnswerIs.Balance rows (scales_of asks.register)
 
 -- the answer is the turnovers of the range
-pub record IsTurnovers (desk : Desk) (t : TurnoversRequest) (answer : Answer) : Type 0 where
+pub record IsTurnoversTable (desk : Desk) (t : TurnoversRequest) (answer : Answer) : Type 0 where
   pub asks : Asks desk t.register (λ register. true)
   pub rows : List Row
   pub rows_are : rows ≡ turnovers_of asks.register.balance (length asks.register.resources)
@@ -82,7 +82,7 @@ pub record IsTurnovers (desk : Desk) (t : TurnoversRequest) (answer : Answer) : 
       answer ≡ AnswerIs.Turnovers asks.register.balance rows (scales_of asks.register)
 
 -- the answer is the balances and turnovers of the range
-pub record IsBoth (desk : Desk) (b : BothRequest) (answer : Answer) : Type 0 where
+pub record IsBothTable (desk : Desk) (b : BothRequest) (answer : Answer) : Type 0 where
   pub asks : Asks desk b.turnovers.register (λ register. register.balance)
   pub rows : List Row
   pub rows_are : rows ≡ balance_and_turnovers_of (length asks.register.resources)
@@ -113,28 +113,28 @@ pub record IsOfAccounts (desk : Desk) (ledger : List ℕ) (account : Option (Lis
   pub answer_is : answer ≡ shown rows asks.chart.scale
 
 -- the answer is the balances of accounts
-abbrev pub IsAccountBalance : Desk → AccountBalanceRequest → Answer → Type 0
-IsAccountBalance desk b = IsOfAccounts desk b.accounts.ledger b.accounts.account
+abbrev pub IsAccountBalanceTable : Desk → AccountBalanceRequest → Answer → Type 0
+IsAccountBalanceTable desk b = IsOfAccounts desk b.accounts.ledger b.accounts.account
     (λ chart entries. account_balance_of chart entries b.accounts.account
     (asks_extras b.accounts) (unwrap_or b.cut Now))
     AnswerIs.AccountBalance
 
 -- the answer is the turnovers of accounts
-abbrev pub IsAccountTurnovers : Desk → AccountRequest → Answer → Type 0
-IsAccountTurnovers desk t = IsOfAccounts desk t.accounts.ledger t.accounts.account
+abbrev pub IsAccountTurnoversTable : Desk → AccountRequest → Answer → Type 0
+IsAccountTurnoversTable desk t = IsOfAccounts desk t.accounts.ledger t.accounts.account
     (λ chart entries. account_turnovers_of chart entries t.accounts.account
     (asks_extras t.accounts) (range_of t.dates t.by))
     AnswerIs.AccountTurnovers
 
 -- the answer is the balances and turnovers of accounts
-abbrev pub IsAccountBoth : Desk → AccountRequest → Answer → Type 0
-IsAccountBoth desk t = IsOfAccounts desk t.accounts.ledger t.accounts.account
+abbrev pub IsAccountBothTable : Desk → AccountRequest → Answer → Type 0
+IsAccountBothTable desk t = IsOfAccounts desk t.accounts.ledger t.accounts.account
     (λ chart entries. account_both_of chart entries t.accounts.account
     (asks_extras t.accounts) (range_of t.dates t.by))
     AnswerIs.AccountBoth
 
 -- the answer is the sums by pairs of accounts
-pub record IsPairs (desk : Desk) (q : PairsRequest) (answer : Answer) : Type 0 where
+pub record IsPairsTable (desk : Desk) (q : PairsRequest) (answer : Answer) : Type 0 where
   pub asks : AsksLedger desk q.ledger q.account
   pub rows : List PairRow
   pub rows_are : rows ≡ dr_cr_of asks.chart (entries_of asks.place desk.serial.documents)
@@ -145,7 +145,7 @@ pub record IsPairs (desk : Desk) (q : PairsRequest) (answer : Answer) : Type 0 w
 -- ---- documents
 
 -- the answer is the documents of the range
-pub record IsDocuments (desk : Desk) (q : DocumentsQuestion) (answer : Answer) : Type 0 where
+pub record IsDocumentsTable (desk : Desk) (q : DocumentsQuestion) (answer : Answer) : Type 0 where
   pub rows : List DocRow
   pub rows_are : rows ≡ rows_between desk.setting.config (range_of q.dates None)
       desk.serial.documents
@@ -156,14 +156,14 @@ pub record IsDocuments (desk : Desk) (q : DocumentsQuestion) (answer : Answer) :
 
 -- where the request is for a table, the answer is that table
 abbrev pub IsTable : Desk → Request → Answer → Type 0
-IsTable desk (Balance b) answer = IsBalance desk b answer
-IsTable desk (Turnovers t) answer = IsTurnovers desk t answer
-IsTable desk (Both b) answer = IsBoth desk b answer
-IsTable desk (AccountBalance b) answer = IsAccountBalance desk b answer
-IsTable desk (AccountTurnovers t) answer = IsAccountTurnovers desk t answer
-IsTable desk (AccountBoth t) answer = IsAccountBoth desk t answer
-IsTable desk (DrCr q) answer = IsPairs desk q answer
-IsTable desk (Documents q) answer = IsDocuments desk q answer
+IsTable desk (Balance b) answer = IsBalanceTable desk b answer
+IsTable desk (Turnovers t) answer = IsTurnoversTable desk t answer
+IsTable desk (Both b) answer = IsBothTable desk b answer
+IsTable desk (AccountBalance b) answer = IsAccountBalanceTable desk b answer
+IsTable desk (AccountTurnovers t) answer = IsAccountTurnoversTable desk t answer
+IsTable desk (AccountBoth t) answer = IsAccountBothTable desk t answer
+IsTable desk (DrCr q) answer = IsPairsTable desk q answer
+IsTable desk (Documents q) answer = IsDocumentsTable desk q answer
 IsTable desk (Write w) answer = ⊤
 IsTable desk (Post p) answer = ⊤
 IsTable desk (Unpost u) answer = ⊤

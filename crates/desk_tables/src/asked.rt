@@ -92,7 +92,7 @@ fn has_asked_account(chart: &Chart, account: &Option<Code>) -> bool
     ensures { result ≡ has_account_of chart.now account.now }
 {
     match account {
-        Some(code) => chart.has_account(code),
+        Some(code) => chart.account(code).is_some(),
         None => true,
     }
 }
