@@ -1,0 +1,36 @@
+-- For the crates above: the lemmas of this crate that their proofs may cite.
+use Rattle.std.proofs.Common.{ℕ, ◌≤◌, List, [], ◌++◌}
+use Rattle.std.specs.Cmp.{IsTotalOrder}
+use Rattle.std.proofs.lemmas.Map.Lookups.{CmpEqualImpliesEq}
+use Rattle.reg_base.specs.Turnovers.{unit_cmp, key_cmp}
+use Rattle.table_sums.specs.declared.sums.UnitSums.{UnitSums}
+use Rattle.table_sums.specs.Additions.{Addition, AreInReach, Adds}
+use Rattle.table_sums.proofs.AddLemmas as adds
+use Rattle.table_sums.proofs.KeyOrder as keys
+use Rattle.table_sums.proofs.ReachLemmas as sizes
+
+pub unit_cmp_total : IsTotalOrder unit_cmp
+unit_cmp_total = keys.unit_cmp_total
+
+pub unit_cmp_exact : CmpEqualImpliesEq unit_cmp
+unit_cmp_exact = keys.unit_cmp_exact
+
+pub key_cmp_total : IsTotalOrder key_cmp
+key_cmp_total = keys.key_cmp_total
+
+pub key_cmp_exact : CmpEqualImpliesEq key_cmp
+key_cmp_exact = keys.key_cmp_exact
+
+-- nothing added
+pub Adds-none : (columns : ℕ) (rows : List UnitSums) → Adds columns [] rows rows
+Adds-none = adds.Adds-none
+
+-- additions one list after another
+pub Adds-both : (columns : ℕ) (xs ys : List Addition) (old mid new : List UnitSums)
+    → Adds columns xs old mid → Adds columns ys mid new → Adds columns (xs ++ ys) old new
+Adds-both = adds.Adds-both
+
+-- sums that so many numbers can make, more can make
+pub reach-more : (m n : ℕ) → m ≤ n → (rows : List UnitSums) → AreInReach m rows
+    → AreInReach n rows
+reach-more = sizes.reach-more
