@@ -1,5 +1,6 @@
 -- For the crates above: the lemmas of this crate that their proofs may cite.
 use Rattle.std.proofs.Common.{◌≡◌, ℕ, ◌+◌, ◌*◌, ◌%◌, ◌^◌, ◌<◌, ◌&&◌, min, ◌+ℤ◌, Bool, true, false}
+use Rattle.std.proofs.Common.{◌≤◌, ◌↔◌, Some, None}
 use Rattle.std.proofs.Common.{nat_lt, Option, IfSome, List, [], ◌∷◌, ◌++◌, length, get_or, IsUtf8}
 use Rattle.std.proofs.Common.{Result, Ok, IfOk}
 use Rattle.std.specs.Prelude.{filter}
@@ -19,11 +20,14 @@ use Rattle.reg_base.specs.contracts.value.ValueOrd.TheImpl.{ghosts}
 use Rattle.reg_base.specs.Results.{◌>>=◌, unless, some_or}
 use Rattle.reg_base.specs.Codes.{is_code, is_name}
 use Rattle.reg_base.specs.Numbers.{read_on, decimal_value, last_digits, number_text}
-use Rattle.reg_base.specs.Dates.{parse_date, date_text}
+use Rattle.reg_base.specs.Dates.{parse_date, parse_date_end, date_text}
 use Rattle.reg_base.specs.Cuts.{IsCut, inside, parse_cut, cut_text}
 use Rattle.reg_base.specs.Records.{Booked, value_cmp, values_cmp, put_once, point_of, booked_by}
 use Rattle.reg_base.specs.Records.{records_of, matches}
 use Rattle.reg_base.specs.Balances.{group_of, groups_of, contribution, total, sum_rows, balance_of}
+use Rattle.reg_base.specs.declared.tables.Periodicity.{Periodicity}
+use Rattle.reg_base.specs.Units.{unit_start, next_unit, are_dates, IsStart, IsUnitStart, IsNextUnit}
+use Rattle.reg_base.specs.Units.{IsLastUnit}
 use Rattle.reg_base.proofs.ResultLemmas as results
 use Rattle.reg_base.proofs.CodeLemmas as spellings
 use Rattle.reg_base.proofs.NumberLemmas as numbers
@@ -32,6 +36,7 @@ use Rattle.reg_base.proofs.SumTextLemmas as sums
 use Rattle.reg_base.proofs.PointTextLemmas as points
 use Rattle.reg_base.proofs.DateTextLemmas as dates
 use Rattle.reg_base.proofs.RangeLemmas as ranges
+use Rattle.reg_base.proofs.UnitLaws as units
 use Rattle.reg_base.proofs.Utf8Lemmas as utf8
 use Rattle.reg_base.proofs.OrderLemmas as orders
 use Rattle.reg_base.proofs.OnceLemmas as onces
@@ -110,11 +115,51 @@ parse_date-text = dates.parse_date-text
 pub parse_date-within : (text : List ℕ) → IfOk (parse_date text) (λ date. date < 3_155_760_000)
 parse_date-within = ranges.parse_date-within
 
+-- the same of the end of a range
+pub parse_date_end-text : (date : ℕ) → date < 3_155_760_000
+    → parse_date_end (date_text date) ≡ Ok date
+parse_date_end-text = dates.parse_date_end-text
+
+pub parse_date_end-within : (text : List ℕ)
+    → IfOk (parse_date_end text) (λ date. date < 3_155_760_000)
+parse_date_end-within = ranges.parse_date_end-within
+
 pub parse_cut-text : (cut : Cut) → IsCut cut → parse_cut (cut_text cut) ≡ Ok cut
 parse_cut-text = points.parse_cut-text
 
 pub parse_cut-IsCut : (text : List ℕ) → IfOk (parse_cut text) IsCut
 parse_cut-IsCut = ranges.parse_cut-IsCut
+
+-- ---- units
+
+-- a start that is not above a date is not above the start of the date's unit
+pub unit_start-greatest : (by : Periodicity) (date other : ℕ) → IsStart by other → other ≤ date
+    → other ≤ unit_start by date
+unit_start-greatest = units.unit_start-greatest
+
+pub unit_start-le : (by : Periodicity) (date : ℕ) → unit_start by date ≤ date
+unit_start-le = units.unit_start-le
+
+pub unit_start-is : (by : Periodicity) (date : ℕ) → are_dates by ≡ true
+    → IsUnitStart by date (unit_start by date)
+unit_start-is = units.unit_start-is
+
+pub unit_start-monotone : (by : Periodicity) (date later : ℕ) → date ≤ later
+    → unit_start by date ≤ unit_start by later
+unit_start-monotone = units.unit_start-monotone
+
+-- the unit of a date starts before another start exactly where the date is before it
+pub unit_start-lt : (by : Periodicity) (date start : ℕ) → IsStart by start
+    → (unit_start by date < start) ↔ (date < start)
+unit_start-lt = units.unit_start-lt
+
+pub next_unit-is : (by : Periodicity) (date start : ℕ) → next_unit by date ≡ Some start
+    → IsNextUnit by date start
+next_unit-is = units.next_unit-is
+
+pub next_unit-None : (by : Periodicity) (date : ℕ)
+    → (next_unit by date ≡ None) ↔ IsLastUnit by date
+next_unit-None = units.next_unit-None
 
 -- ---- texts that are UTF-8
 

@@ -14,5 +14,7 @@ mod RangeLemmas
 mod ResultLemmas
 mod SumTextLemmas
 mod TextLemmas
+mod UnitLaws
+mod UnitLemmas
 mod Utf8Lemmas
 mod WorkedRows

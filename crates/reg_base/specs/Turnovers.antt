@@ -116,14 +116,14 @@ is_of group by key b = is_eq (key_cmp (key_of group by b) key)
 -- signed amounts; a register without balances has the last alone
 abbrev pub turnover_row : Bool → ℕ → Option (List ℕ) → Periodicity → List Booked → RowKey → Row
 turnover_row balances resources group by records key = record {
-    group = key.group;
-    unit = key.unit;
-    opening = [];
-    receipt = if balances then sums_where resources (is_of group by key) receipt_at records else [];
-    expense = if balances then sums_where resources (is_of group by key) expense_at records else [];
-    turnover = sums_where resources (is_of group by key) amount_at records;
-    closing = [];
-  }
+  group = key.group;
+  unit = key.unit;
+  opening = [];
+  receipt = if balances then sums_where resources (is_of group by key) receipt_at records else [];
+  expense = if balances then sums_where resources (is_of group by key) expense_at records else [];
+  turnover = sums_where resources (is_of group by key) amount_at records;
+  closing = [];
+}
 
 -- whether a receipt, an expense or a turnover of the row is not zero
 abbrev pub has_movement : Row → Bool

@@ -94,6 +94,11 @@ pub record IsNextUnit (by : Periodicity) (date start : ℕ) : Type 0 where
   pub above : date < start
   pub least : (other : ℕ) → IsStart by other → date < other → start ≤ other
 
+-- no unit starts above the date and before 2100
+abbrev pub IsLastUnit : Periodicity → ℕ → Type 0
+IsLastUnit by date =
+    (other : ℕ) → IsStart by other → date < other → midnight century_days ≤ other
+
 -- whether units of a table are dates, from days to years
 abbrev pub are_dates : Periodicity → Bool
 are_dates Period = false

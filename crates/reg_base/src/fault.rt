@@ -59,16 +59,9 @@ pub enum PostFault {
 #[derive(Clone, Copy, Debug, PartialEq, Eq)]
 pub enum TableFault {
     /// It would begin behind its end.
-    BadRange {
-        from: Date,
-        to: Date,
-    },
+    BadRange { from: Date, to: Date },
     /// It has more rows than a table may have: more than `limit`.
-    TooManyRows {
-        limit: u32,
-    },
+    TooManyRows { limit: u32 },
     /// The register has no dimension of this name, or the name is given twice.
-    UnknownField {
-        name: Name,
-    },
+    UnknownField { name: Name },
 }

@@ -39,6 +39,8 @@ mod sums;
 mod tables;
 mod text;
 mod tried;
+mod unit_laws;
+mod units;
 mod value;
 
 pub use code::{Code, is_code_byte};
@@ -70,4 +72,6 @@ pub use sums::{print_sum, sum_string};
 pub use tables::{AccountRow, Method, PairRow, Periodicity, Range, Row, Unit};
 pub use text::{Text, join_texts, string_of};
 pub use tried::Fault;
+pub use unit_laws::{unit_starts_keep_order, units_are_exact};
+pub use units::{next_unit, unit_start};
 pub use value::{Cell, Value};
