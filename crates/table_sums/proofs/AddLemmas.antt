@@ -26,18 +26,17 @@ use Rattle.table_sums.proofs.RowLemmas.{with_row, set_row, found_at, sums_seen}
 use Rattle.table_sums.proofs.RowLemmas.{sums_seen-lookup, rows_of-set_value, IsRising, is_among}
 use Rattle.table_sums.proofs.RowLemmas.{or-false, eq-flip, among-put_once, found-is, found-none}
 use Rattle.table_sums.proofs.RowLemmas.{with_row-keys, set_row-keys}
-use Rattle.table_sums.proofs.ReachLemmas.{reach-more, raised-reach, more-reach, reach-with_row}
-use Rattle.table_sums.proofs.ReachLemmas.{reach-set_row, found-reach}
+use Rattle.table_sums.proofs.ReachLemmas.{reach-more, reach-with_row, reach-set_row}
 
 -- ---- numbers by column
 
-range-get : (f : ℕ → ℤ) (j a n : ℕ) → j < n
+pub range-get : (f : ℕ → ℤ) (j a n : ℕ) → j < n
     → number_at (map f (range_with_len a n)) j ≡ f (a + j)
 range-get f j a zero h = absurd (omega arith)
 range-get f zero a (suc n) h = ap f (omega arith)
 range-get f (suc j) a (suc n) h = range-get f j (a + 1) n (omega arith) ∙ ap f (omega arith)
 
-range-same : (f g : ℕ → ℤ) (m a n : ℕ) → a + n ≤ m → ((j : ℕ) → j < m → f j ≡ g j)
+pub range-same : (f g : ℕ → ℤ) (m a n : ℕ) → a + n ≤ m → ((j : ℕ) → j < m → f j ≡ g j)
     → map f (range_with_len a n) ≡ map g (range_with_len a n)
 range-same f g m a zero h e = refl
 range-same f g m a (suc n) h e =
@@ -168,10 +167,8 @@ module _ (k : RowKey) (ns : List ℤ) (small : (j : ℕ) → IsInReach 1 (number
       record {
         sums = λ bs old. rows ∙ sums bs old found;
         reach = λ count h. subst (AreInReach (count + 1)) (sym rows)
-            (reach-set_row (count + 1) k w.items (rows_of es)
-            (raised-reach count (length v.items) w.items v.items ns value small
-            (found-reach count k v.items (rows_of es) found h))
-            (reach-more count (count + 1) (omega arith) (rows_of es) h));
+            (reach-set_row count k ns (rows_of es) small h (length v.items) v.items w.items found
+            value);
       }
     where
       sums : (bs : List Addition) → rows_of es ≡ rows_over (length ns) bs
@@ -194,9 +191,7 @@ module _ (k : RowKey) (ns : List ℤ) (small : (j : ℕ) → IsInReach 1 (number
   Adds-made old new none next = record {
     sums = sums;
     reach = λ count h. subst (AreInReach (count + 1)) (sym next)
-        (reach-with_row (count + 1) k ns old
-        (λ j. more-reach 1 (count + 1) (number_at ns j) (omega arith) (small j))
-        (reach-more count (count + 1) (omega arith) old h));
+        (reach-with_row count k ns old small h);
   }
     where
       sums : (bs : List Addition) → old ≡ rows_over (length ns) bs

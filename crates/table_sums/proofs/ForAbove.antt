@@ -1,10 +1,11 @@
 -- For the crates above: the lemmas of this crate that their proofs may cite.
-use Rattle.std.proofs.Common.{ℕ, ◌≤◌, List, [], ◌++◌}
+use Rattle.std.proofs.Common.{◌≡◌, ℕ, ◌+◌, ◌<◌, ◌≤◌, ℤ, pos, List, [], ◌++◌, map}
+use Rattle.std.specs.List.{range_with_len}
 use Rattle.std.specs.Cmp.{IsTotalOrder}
 use Rattle.std.proofs.lemmas.Map.Lookups.{CmpEqualImpliesEq}
 use Rattle.reg_base.specs.Turnovers.{unit_cmp, key_cmp}
 use Rattle.table_sums.specs.declared.sums.UnitSums.{UnitSums}
-use Rattle.table_sums.specs.Additions.{Addition, AreInReach, Adds}
+use Rattle.table_sums.specs.Additions.{Addition, number_at, IsInReach, AreInReach, Adds}
 use Rattle.table_sums.proofs.AddLemmas as adds
 use Rattle.table_sums.proofs.KeyOrder as keys
 use Rattle.table_sums.proofs.ReachLemmas as sizes
@@ -20,6 +21,20 @@ key_cmp_total = keys.key_cmp_total
 
 pub key_cmp_exact : CmpEqualImpliesEq key_cmp
 key_cmp_exact = keys.key_cmp_exact
+
+-- the number at a column
+pub range-get : (f : ℕ → ℤ) (j a n : ℕ) → j < n
+    → number_at (map f (range_with_len a n)) j ≡ f (a + j)
+range-get = adds.range-get
+
+-- numbers that are the same at each column
+pub range-same : (f g : ℕ → ℤ) (m a n : ℕ) → a + n ≤ m → ((j : ℕ) → j < m → f j ≡ g j)
+    → map f (range_with_len a n) ≡ map g (range_with_len a n)
+range-same = adds.range-same
+
+-- 0 is in reach
+pub zero-reach : (count : ℕ) → IsInReach count (pos 0)
+zero-reach = sizes.zero-reach
 
 -- nothing added
 pub Adds-none : (columns : ℕ) (rows : List UnitSums) → Adds columns [] rows rows

@@ -1,6 +1,8 @@
 -- How large sums can be.
-use Rattle.std.proofs.Common.{◌≡◌, ℕ, zero, suc, ◌+◌, ◌≤◌, ℤ, pos, ◌+ℤ◌, Bool, true}
-use Rattle.std.proofs.Common.{false, cond, Some, List, [], ◌∷◌, map, subst, sym, arith}
+use Rattle.std.proofs.Common.{◌≡◌, ℕ, zero, suc, ◌+◌, ◌<◌, ◌≤◌, ◌*◌, ◌^◌, ℤ, pos, negsuc, neg_ℤ}
+use Rattle.std.proofs.Common.{◌+ℤ◌, ◌≤ℤ◌, Bool, true, false, cond, None, Some, List, [], ◌∷◌, map}
+use Rattle.std.proofs.Common.{length, ap, ◌∙◌, sym, subst, arith}
+use Rattle.std.specs.Prelude.{unsigned_abs}
 use Rattle.std.specs.List.{range_with_len}
 use Rattle.std.specs.Ordering.{match_ordering, is_eq}
 use Rattle.std.specs.declared.cmp.Ordering.{Ordering}
@@ -8,80 +10,132 @@ use Rattle.std.specs.declared.cmp.Ordering.TheVariants.{Less, Equal, Greater}
 use Rattle.std.proofs.lemmas.Int.{ints}
 use Rattle.reg_base.specs.Turnovers.{RowKey, key_cmp}
 use Rattle.table_sums.specs.declared.sums.UnitSums.{UnitSums}
-use Rattle.table_sums.specs.Additions.{number_at, IsInReach, AreInReach}
+use Rattle.table_sums.specs.Additions.{number_at, size_at, IsInReach, AreInReach}
 use Rattle.table_sums.proofs.RowLemmas.{row_key, row, with_row, set_row, found_at}
 
 pub zero-reach : (count : ℕ) → IsInReach count (pos 0)
 zero-reach count = (omega (arith, ints), omega (arith, ints))
 
-pub more-reach : (m n : ℕ) (x : ℤ) → m ≤ n → IsInReach m x → IsInReach n x
-more-reach m n x l h = (omega (arith, ints), omega (arith, ints))
+-- a number between two bounds is no further from 0 than they are
+pub abs-within : (bound : ℕ) (x : ℤ) → unsigned_abs x ≤ bound
+    → (neg_ℤ (pos bound) ≤ℤ x) × (x ≤ℤ pos bound)
+abs-within bound (pos n) h = (omega (arith, ints, h), omega (arith, ints, h))
+abs-within bound (negsuc n) h = (omega (arith, ints, h), omega (arith, ints, h))
 
-plus-reach : (count : ℕ) (a y : ℤ) → IsInReach 1 a → IsInReach count y
-    → IsInReach (count + 1) (a +ℤ y)
-plus-reach count a y h g = (omega (arith, ints), omega (arith, ints))
+pub within-abs : (bound : ℕ) (x : ℤ) → neg_ℤ (pos bound) ≤ℤ x → x ≤ℤ pos bound
+    → unsigned_abs x ≤ bound
+within-abs bound (pos n) h g = omega (arith, ints, h, g)
+within-abs bound (negsuc n) h g = omega (arith, ints, h, g)
+
+pub abs-sum : (x y : ℤ) → unsigned_abs (x +ℤ y) ≤ unsigned_abs x + unsigned_abs y
+abs-sum x y =
+    let a = abs-within (unsigned_abs x) x (omega arith) in
+    let b = abs-within (unsigned_abs y) y (omega arith) in
+    both (unsigned_abs x) (unsigned_abs y) a.0 a.1 b.0 b.1
+  where
+    both : (m n : ℕ) → neg_ℤ (pos m) ≤ℤ x → x ≤ℤ pos m → neg_ℤ (pos n) ≤ℤ y → y ≤ℤ pos n
+        → unsigned_abs (x +ℤ y) ≤ m + n
+    both m n a b c d = within-abs (m + n) (x +ℤ y) (omega (arith, ints, a, c))
+        (omega (arith, ints, b, d))
 
 pub reach-more : (m n : ℕ) → m ≤ n → (rows : List UnitSums) → AreInReach m rows
     → AreInReach n rows
-reach-more m n l [] h = tt
-reach-more m n l (r ∷ rs) h =
-    (λ j. more-reach m n (number_at r.sums j) l (h.0 j), reach-more m n l rs h.1)
+reach-more m n l rows h = λ j. omega (arith, l, h j)
 
 -- the sums of a key that are found
+found-size : (k : RowKey) (v : List ℤ) (rows : List UnitSums) → found_at k rows ≡ Some v
+    → (j : ℕ) → unsigned_abs (number_at v j) ≤ size_at j rows
+found-size k v [] e j = absurd (cc)
+found-size k v (r ∷ rs) e j =
+    at (λ found. found-size k v rs found j) (is_eq (key_cmp k (row_key r))) e
+  where
+    at : (found_at k rs ≡ Some v → unsigned_abs (number_at v j) ≤ size_at j rs) → (b : Bool)
+        → cond b (Some r.sums) (found_at k rs) ≡ Some v
+        → unsigned_abs (number_at v j) ≤ unsigned_abs (number_at r.sums j) + size_at j rs
+    at ih true found =
+        let same : r.sums ≡ v = cc in
+        subst (λ s. unsigned_abs (number_at s j)
+        ≤ unsigned_abs (number_at r.sums j) + size_at j rs) same (omega arith)
+    at ih false found = omega (arith, ih found)
+
 pub found-reach : (count : ℕ) (k : RowKey) (v : List ℤ) (rows : List UnitSums)
     → found_at k rows ≡ Some v → AreInReach count rows
     → (j : ℕ) → IsInReach count (number_at v j)
-found-reach count k v [] e h j = absurd (cc)
-found-reach count k v (r ∷ rs) e h j =
-    at (λ found. found-reach count k v rs found h.1 j) (is_eq (key_cmp k (row_key r))) e
-  where
-    at : (found_at k rs ≡ Some v → IsInReach count (number_at v j)) → (b : Bool)
-        → cond b (Some r.sums) (found_at k rs) ≡ Some v → IsInReach count (number_at v j)
-    at ih true found =
-        let same : r.sums ≡ v = cc in
-        subst (λ s. IsInReach count (number_at s j)) same (h.0 j)
-    at ih false found = ih found
+found-reach count k v rows e h j =
+    abs-within (2 ^ 63 * count) (number_at v j) (omega (arith, found-size k v rows e j, h j))
 
-range-all : (P : ℤ → Type 0) (f : ℕ → ℤ) (a n : ℕ) → P (pos 0) → ((j : ℕ) → P (f j))
-    → (j : ℕ) → P (number_at (map f (range_with_len a n)) j)
-range-all P f a zero none all j = none
-range-all P f a (suc n) none all zero = all a
-range-all P f a (suc n) none all (suc j) = range-all P f (a + 1) n none all j
-
--- numbers added to sums
-pub raised-reach : (count n : ℕ) (w v ns : List ℤ)
+-- a number of a row is as far from 0 as the two that it sums can be
+raised-size : (n : ℕ) (w v ns : List ℤ)
     → w ≡ map (λ j. number_at ns j +ℤ number_at v j) (range_with_len 0 n)
-    → ((j : ℕ) → IsInReach 1 (number_at ns j)) → ((j : ℕ) → IsInReach count (number_at v j))
-    → (j : ℕ) → IsInReach (count + 1) (number_at w j)
-raised-reach count n w v ns e small h j =
-    subst (λ s. IsInReach (count + 1) (number_at s j)) (sym e)
-    (range-all (IsInReach (count + 1)) (λ i. number_at ns i +ℤ number_at v i) 0 n
-    (zero-reach (count + 1))
-    (λ i. plus-reach count (number_at ns i) (number_at v i) (small i) (h i)) j)
-
--- a row put, or changed
-pub reach-with_row : (count : ℕ) (k : RowKey) (v : List ℤ) (rows : List UnitSums)
-    → ((j : ℕ) → IsInReach count (number_at v j)) → AreInReach count rows
-    → AreInReach count (with_row k v rows)
-reach-with_row count k v [] h all = (h, tt)
-reach-with_row count k v (r ∷ rs) h all =
-    at (reach-with_row count k v rs h all.1) (key_cmp k (row_key r))
+    → (j : ℕ) → unsigned_abs (number_at w j)
+    ≤ unsigned_abs (number_at ns j) + unsigned_abs (number_at v j)
+raised-size n w v ns e j =
+    subst (λ s. unsigned_abs (number_at s j)
+    ≤ unsigned_abs (number_at ns j) + unsigned_abs (number_at v j)) (sym e)
+    (at 0 n j (omega arith))
   where
-    at : AreInReach count (with_row k v rs) → (o : Ordering)
-        → AreInReach count (match_ordering o (row k v ∷ r ∷ rs) (row (row_key r) v ∷ rs)
+    at : (a m i : ℕ) → a + i ≡ j
+        → unsigned_abs (number_at (map (λ j. number_at ns j +ℤ number_at v j)
+        (range_with_len a m)) i) ≤ unsigned_abs (number_at ns j) + unsigned_abs (number_at v j)
+    at a zero i same = omega arith
+    at a (suc m) zero same =
+        subst (λ k. unsigned_abs (number_at ns k +ℤ number_at v k)
+        ≤ unsigned_abs (number_at ns j) + unsigned_abs (number_at v j)) (omega (arith, same))
+        (abs-sum (number_at ns j) (number_at v j))
+    at a (suc m) (suc i) same = at (a + 1) m i (omega (arith, same))
+
+-- a row put among rows
+with_row-size : (k : RowKey) (v : List ℤ) (rows : List UnitSums) (j : ℕ)
+    → size_at j (with_row k v rows) ≤ unsigned_abs (number_at v j) + size_at j rows
+with_row-size k v [] j = omega arith
+with_row-size k v (r ∷ rs) j = at (with_row-size k v rs j) (key_cmp k (row_key r))
+  where
+    at : size_at j (with_row k v rs) ≤ unsigned_abs (number_at v j) + size_at j rs
+        → (o : Ordering)
+        → size_at j (match_ordering o (row k v ∷ r ∷ rs) (row (row_key r) v ∷ rs)
         (r ∷ with_row k v rs))
-    at ih Less = (h, all)
-    at ih Equal = (h, all.1)
-    at ih Greater = (all.0, ih)
+        ≤ unsigned_abs (number_at v j) + (unsigned_abs (number_at r.sums j) + size_at j rs)
+    at ih Less = omega arith
+    at ih Equal = omega arith
+    at ih Greater = omega (arith, ih)
 
-pub reach-set_row : (count : ℕ) (k : RowKey) (v : List ℤ) (rows : List UnitSums)
-    → ((j : ℕ) → IsInReach count (number_at v j)) → AreInReach count rows
-    → AreInReach count (set_row k v rows)
-reach-set_row count k v [] h all = tt
-reach-set_row count k v (r ∷ rs) h all =
-    at (reach-set_row count k v rs h all.1) (is_eq (key_cmp k (row_key r)))
+-- a row changed
+set_row-size : (k : RowKey) (v w : List ℤ) (rows : List UnitSums) → found_at k rows ≡ Some v
+    → (j : ℕ) → size_at j (set_row k w rows) + unsigned_abs (number_at v j)
+    ≡ size_at j rows + unsigned_abs (number_at w j)
+set_row-size k v w [] e j = absurd (cc)
+set_row-size k v w (r ∷ rs) e j =
+    at (λ found. set_row-size k v w rs found j) (is_eq (key_cmp k (row_key r))) e
   where
-    at : AreInReach count (set_row k v rs) → (b : Bool)
-        → AreInReach count (cond b (row (row_key r) v ∷ rs) (r ∷ set_row k v rs))
-    at ih true = (h, all.1)
-    at ih false = (all.0, ih)
+    at : (found_at k rs ≡ Some v → size_at j (set_row k w rs) + unsigned_abs (number_at v j)
+        ≡ size_at j rs + unsigned_abs (number_at w j)) → (b : Bool)
+        → cond b (Some r.sums) (found_at k rs) ≡ Some v
+        → size_at j (cond b (row (row_key r) w ∷ rs) (r ∷ set_row k w rs))
+        + unsigned_abs (number_at v j)
+        ≡ (unsigned_abs (number_at r.sums j) + size_at j rs) + unsigned_abs (number_at w j)
+    at ih true found =
+        let same : unsigned_abs (number_at r.sums j) ≡ unsigned_abs (number_at v j) =
+        ap (λ s. unsigned_abs (number_at s j)) (let is : r.sums ≡ v = cc in is) in
+        omega (arith, same)
+    at ih false found = omega (arith, ih found)
+
+module _ (count : ℕ) (k : RowKey) (ns : List ℤ) (rows : List UnitSums)
+    (small : (j : ℕ) → IsInReach 1 (number_at ns j)) (all : AreInReach count rows) where
+  small-size : (j : ℕ) → unsigned_abs (number_at ns j) ≤ 2 ^ 63 * 1
+  small-size j = within-abs (2 ^ 63 * 1) (number_at ns j) (small j).0 (small j).1
+
+  -- the row of a key, made
+  pub reach-with_row : AreInReach (count + 1) (with_row k ns rows)
+  reach-with_row j = omega (arith, with_row-size k ns rows j, small-size j, all j)
+
+  -- the row of a key, raised
+  pub reach-set_row : (n : ℕ) (v w : List ℤ) → found_at k rows ≡ Some v
+      → w ≡ map (λ j. number_at ns j +ℤ number_at v j) (range_with_len 0 n)
+      → AreInReach (count + 1) (set_row k w rows)
+  reach-set_row n v w found e j = omega (
+    arith,
+    set_row-size k v w rows found j,
+    raised-size n w v ns e j,
+    small-size j,
+    all j,
+  )

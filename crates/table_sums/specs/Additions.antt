@@ -1,7 +1,7 @@
 -- Numbers added to groups and units, and the rows of their sums.
-use Rattle.std.specs.Prelude.{◌≡◌, ℕ, ◌+◌, ◌*◌, ◌^◌, ℤ, pos, neg_ℤ, ◌≤ℤ◌, unwrap_or, List}
-use Rattle.std.specs.Prelude.{if◌then◌else◌, ◌++◌, map, slice_get, length}
-use Rattle.std.specs.List.{AllByRecursion, range_with_len}
+use Rattle.std.specs.Prelude.{◌≡◌, ◌≤◌, ℕ, ◌+◌, ◌*◌, ◌^◌, ℤ, pos, neg_ℤ, ◌≤ℤ◌, unsigned_abs}
+use Rattle.std.specs.Prelude.{unwrap_or, if◌then◌else◌, List, [], ◌∷◌, ◌++◌, map, slice_get, length}
+use Rattle.std.specs.List.{range_with_len}
 use Rattle.std.specs.Ordering.{is_eq}
 use Rattle.reg_base.specs.declared.value.Value.{Value}
 use Rattle.reg_base.specs.declared.tables.Unit.{Unit}
@@ -49,10 +49,14 @@ rows_over columns more = map (row_with (sums_at columns more)) (keys_in more)
 abbrev pub IsInReach : ℕ → ℤ → Type 0
 IsInReach count n = (neg_ℤ (pos (2 ^ 63 * count)) ≤ℤ n) × (n ≤ℤ pos (2 ^ 63 * count))
 
--- the sums of all rows are no larger than so many numbers can make
+-- how far the sums of a column are from 0, together
+abbrev pub size_at : ℕ → List UnitSums → ℕ
+size_at column [] = 0
+size_at column (row ∷ rows) = unsigned_abs (number_at row.sums column) + size_at column rows
+
+-- the sums of each column are, together, no further from 0 than so many numbers can take them
 abbrev pub AreInReach : ℕ → List UnitSums → Type 0
-AreInReach count rows =
-    AllByRecursion (λ row. (column : ℕ) → IsInReach count (number_at row.sums column)) rows
+AreInReach count rows = (column : ℕ) → size_at column rows ≤ 2 ^ 63 * count
 
 -- the new rows have these additions besides those that the old ones have
 pub record Adds (columns : ℕ) (more : List Addition) (old new : List UnitSums) : Type 0 where

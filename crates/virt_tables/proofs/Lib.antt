@@ -1,0 +1,7 @@
+mod ColumnLemmas
+mod CutLemmas
+pub mod ForAbove
+mod LimitLemmas
+mod ListLemmas
+mod MoveLemmas
+mod OrderLemmas

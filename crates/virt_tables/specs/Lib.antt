@@ -1,0 +1,4 @@
+pub mod Bounds
+pub mod Columns
+pub mod Cuts
+pub mod Limits
