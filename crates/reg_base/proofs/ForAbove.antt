@@ -1,4 +1,5 @@
--- For the crates above: the lemmas of this crate that their proofs may cite.
+-- For the crates above: the lemmas of this crate that their proofs may cite. Those on sums over
+-- lists and on tables stand in ForTables.
 use Rattle.std.proofs.Common.{◌≡◌, ℕ, ◌+◌, ◌*◌, ◌%◌, ◌^◌, ◌<◌, ◌&&◌, min, ◌+ℤ◌, Bool, true, false}
 use Rattle.std.proofs.Common.{◌≤◌, ◌↔◌, Some, None}
 use Rattle.std.proofs.Common.{nat_lt, Option, IfSome, List, [], ◌∷◌, ◌++◌, length, get_or, IsUtf8}

@@ -14,6 +14,7 @@ pub mod Rights
 pub mod Shares
 pub mod ShortTexts
 pub mod Sums
+pub mod TableLaws
 pub mod Tries
 pub mod Turnovers
 pub mod Units

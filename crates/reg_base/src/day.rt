@@ -1,6 +1,7 @@
 //! Days of the calendar, as dates are spelt and printed.
 ghost use Rattle.std.specs.Prelude.{◌≡◌, ◌+◌, ◌-◌, ◌<◌, ◌≤◌, ◌^◌, ◌++◌, length, string_bytes, IfOk};
 ghost use Rattle.std.specs.Prelude.{OnOk, IfNone, IfSome, true, false};
+ghost use Rattle.std.specs.Int.{IsInRange};
 ghost use Rattle.reg_base.specs.Days.{IsDayNumber, IsInCentury};
 ghost use Rattle.reg_base.specs.Dates.{has_day, number_between, day_spelt, second_spelt, day_text};
 ghost use Rattle.reg_base.specs.Dates.{second_text};
@@ -142,7 +143,8 @@ pub fn calendar_day(day: u32) -> Day
     ensures value { result ≡ calendar_day day }
     ensures number { IsDayNumber result (4_382_544 + day) }
     ensures century { IsInCentury result }
-    ensures month { 1 ≤ result.month }
+    ensures month { IsInRange 1 12 result.month }
+    ensures day { IsInRange 1 31 result.day }
 {
     day_at(FIRST_DAY + day)
 }

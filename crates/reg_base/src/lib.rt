@@ -36,6 +36,7 @@ mod scale;
 mod shares;
 mod short_text;
 mod sums;
+mod table_laws;
 mod tables;
 mod text;
 mod tried;
@@ -69,6 +70,9 @@ pub use right::Right;
 pub use scale::Scale;
 pub use shares::share;
 pub use sums::{print_sum, sum_string};
+pub use table_laws::{
+    rows_close, rows_stand_in_order, tables_take_records_in_any_order, turnovers_add_up,
+};
 pub use tables::{AccountRow, Method, PairRow, Periodicity, Range, Row, Unit};
 pub use text::{Text, join_texts, string_of};
 pub use tried::Fault;

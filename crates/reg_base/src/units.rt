@@ -1,10 +1,11 @@
 //! Units of time: where the unit of a date starts, and the one behind it.
-ghost use Rattle.std.specs.Prelude.{◌≡◌, ◌*◌, ◌<◌, ◌≤◌};
+ghost use Rattle.std.specs.Prelude.{◌≡◌, ◌+◌, ◌*◌, ◌<◌, ◌≤◌};
 ghost use Rattle.reg_base.specs.Units.{is_first, begins_part, begins_ten, starts_unit, start_day};
-ghost use Rattle.reg_base.specs.Units.{unit_start, next_unit};
+ghost use Rattle.reg_base.specs.Units.{unit_start, next_unit, calendar_day};
+ghost use Rattle.reg_base.specs.Days.{IsDayNumber, into_ten, part_start};
 
 use crate::Date;
-use crate::day::{CENTURY_DAYS, Day, calendar_day};
+use crate::day::{CENTURY_DAYS, Day, FIRST_DAY, calendar_day, day_number};
 use crate::tables::Periodicity;
 
 /// The start of the unit of a date: its day, the Monday of its week (the first week starts on
@@ -40,14 +41,47 @@ fn midnight(day: u32) -> Date
 // The last day up to this one on which a unit starts.
 fn start_day(by: Periodicity, day: u32) -> u32
     requires { day < 36_525 }
-    ensures value { result ≡ start_day by day }
-    ensures below { result ≤ day }
+    ensures { result ≡ start_day by day }
 {
-    let mut start = day;
-    while start > 0 && !starts_unit(by, start) {
-        start -= 1;
+    match by {
+        Periodicity::Period | Periodicity::Record | Periodicity::Recorder => 0,
+        Periodicity::Day => day,
+        Periodicity::Week => day.saturating_sub((day + 5) % 7),
+        Periodicity::TenDays => day - u32::from(into_ten(calendar_day(day).day)),
+        Periodicity::Month => day - u32::from(calendar_day(day).day - 1),
+        Periodicity::Quarter => part_start(3, day),
+        Periodicity::HalfYear => part_start(6, day),
+        Periodicity::Year => part_start(12, day),
     }
-    start
+}
+
+// The days from the 1st, the 11th or the 21st to a day of the month.
+fn into_ten(day: u8) -> u8
+    requires { 1 ≤ day }
+    ensures { result ≡ into_ten day }
+{
+    if day < 11 {
+        day - 1
+    } else if day < 21 {
+        day - 11
+    } else {
+        day - 21
+    }
+}
+
+// The first day of the part of the year, of so many months, that a day lies in.
+fn part_start(months: u8, day: u32) -> u32
+    requires some { 0 < months }
+    requires within { day < 36_525 }
+    ensures { IsDayNumber (part_start months (calendar_day day)) (4_382_544 + result) }
+{
+    let c = calendar_day(day);
+    let first = Day {
+        year: c.year,
+        month: c.month - (c.month - 1) % months,
+        day: 1,
+    };
+    day_number(first).unwrap() - FIRST_DAY
 }
 
 // Whether a unit starts on the day.
