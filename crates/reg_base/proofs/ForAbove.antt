@@ -199,12 +199,6 @@ pub put_once-rising : {X : Type 0} {R : X → X → Ordering} → IsTotalOrder R
     → (x : X) (ys : List X) → IsStrictlySortedBy R ys → IsStrictlySortedBy R (put_once R x ys)
 put_once-rising o exact = onces.put_once-rising o exact
 
--- two elements may be put in either order
-pub put_once-put_once : {X : Type 0} {R : X → X → Ordering} → IsTotalOrder R
-    → CmpEqualImpliesEq R → (a b : X) (xs : List X)
-    → put_once R a (put_once R b xs) ≡ put_once R b (put_once R a xs)
-put_once-put_once o exact = onces.put_once-put_once o exact
-
 -- groups rise
 pub groups_of-rising : (by : Option (List ℕ)) (bs : List Booked)
     → IsStrictlySortedBy values_cmp (groups_of by bs)

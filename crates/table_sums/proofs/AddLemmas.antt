@@ -16,12 +16,12 @@ use Rattle.reg_base.specs.declared.tables.Unit.{Unit}
 use Rattle.reg_base.specs.Records.{put_once}
 use Rattle.reg_base.specs.Sums.{sum_over}
 use Rattle.reg_base.specs.Turnovers.{RowKey, key_cmp}
-use Rattle.reg_base.proofs.ForAbove.{put_once-rising, put_once-put_once}
+use Rattle.reg_base.proofs.ForAbove.{put_once-rising}
+use Rattle.reg_base.proofs.ForTables.{put_once-put_once, key_cmp_total, key_cmp_exact}
 use Rattle.table_sums.specs.declared.sums.UnitSums.{UnitSums}
 use Rattle.table_sums.specs.Additions.{Addition, number_at, added_at, sums_at, row_with}
 use Rattle.table_sums.specs.Additions.{keys_in, rows_over, IsInReach, AreInReach, Adds}
 use Rattle.table_sums.specs.Rows.{key_seen, rows_of}
-use Rattle.table_sums.proofs.KeyOrder.{key_cmp_total, key_cmp_exact}
 use Rattle.table_sums.proofs.RowLemmas.{with_row, set_row, found_at, sums_seen}
 use Rattle.table_sums.proofs.RowLemmas.{sums_seen-lookup, rows_of-set_value, IsRising, is_among}
 use Rattle.table_sums.proofs.RowLemmas.{or-false, eq-flip, among-put_once, found-is, found-none}

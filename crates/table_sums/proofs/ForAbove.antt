@@ -1,26 +1,10 @@
 -- For the crates above: the lemmas of this crate that their proofs may cite.
 use Rattle.std.proofs.Common.{◌≡◌, ℕ, ◌+◌, ◌<◌, ◌≤◌, ℤ, pos, List, [], ◌++◌, map}
 use Rattle.std.specs.List.{range_with_len}
-use Rattle.std.specs.Cmp.{IsTotalOrder}
-use Rattle.std.proofs.lemmas.Map.Lookups.{CmpEqualImpliesEq}
-use Rattle.reg_base.specs.Turnovers.{unit_cmp, key_cmp}
 use Rattle.table_sums.specs.declared.sums.UnitSums.{UnitSums}
 use Rattle.table_sums.specs.Additions.{Addition, number_at, IsInReach, AreInReach, Adds}
 use Rattle.table_sums.proofs.AddLemmas as adds
-use Rattle.table_sums.proofs.KeyOrder as keys
 use Rattle.table_sums.proofs.ReachLemmas as sizes
-
-pub unit_cmp_total : IsTotalOrder unit_cmp
-unit_cmp_total = keys.unit_cmp_total
-
-pub unit_cmp_exact : CmpEqualImpliesEq unit_cmp
-unit_cmp_exact = keys.unit_cmp_exact
-
-pub key_cmp_total : IsTotalOrder key_cmp
-key_cmp_total = keys.key_cmp_total
-
-pub key_cmp_exact : CmpEqualImpliesEq key_cmp
-key_cmp_exact = keys.key_cmp_exact
 
 -- the number at a column
 pub range-get : (f : ℕ → ℤ) (j a n : ℕ) → j < n

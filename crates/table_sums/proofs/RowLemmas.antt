@@ -13,10 +13,10 @@ use Rattle.reg_base.specs.declared.value.Value.{Value}
 use Rattle.reg_base.specs.declared.tables.Unit.{Unit}
 use Rattle.reg_base.specs.Records.{put_once}
 use Rattle.reg_base.specs.Turnovers.{RowKey, key_cmp}
+use Rattle.reg_base.proofs.ForTables.{key_cmp_total, key_cmp_exact}
 use Rattle.table_sums.specs.declared.sums.UnitSums.{UnitSums}
 use Rattle.table_sums.specs.Additions.{row_with}
 use Rattle.table_sums.specs.Rows.{key_seen, rows_of}
-use Rattle.table_sums.proofs.KeyOrder.{key_cmp_total, key_cmp_exact}
 
 -- the key of a row
 abbrev pub row_key : UnitSums → RowKey

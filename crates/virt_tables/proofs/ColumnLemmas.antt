@@ -1,29 +1,29 @@
 -- The sums of records' numbers, column by column, are the rows of turnovers.
-use Rattle.std.proofs.Common.{◌≡◌, ℕ, zero, ◌+◌, ◌<◌, ℤ, pos, Bool, true, false, ◌||◌, cond, Option}
-use Rattle.std.proofs.Common.{List, [], ◌∷◌, ◌++◌, map, length, refl, ap, ◌∙◌, sym, subst, arith}
+use Rattle.std.proofs.Common.{◌≡◌, ℕ, ◌+◌, ◌<◌, ℤ, pos, Bool, true, false, ◌||◌, cond, Option}
+use Rattle.std.proofs.Common.{List, [], ◌++◌, map, length, refl, ap, ◌∙◌, sym, arith}
 use Rattle.std.proofs.Common.{take, drop, not, length-append}
 use Rattle.std.specs.Ordering.{int_eq}
-use Rattle.std.specs.List.{filter, list_any, range_with_len}
+use Rattle.std.specs.List.{filter, range_with_len}
 use Rattle.std.proofs.lemmas.List.{append-nil, take-append-drop}
 use Rattle.std.proofs.lemmas.List.FromFn.{length-map-range_with_len}
 use Rattle.std.proofs.lemmas.List.Folds.{list_any-append}
 use Rattle.reg_base.specs.declared.records.Rec.{Rec}
 use Rattle.reg_base.specs.declared.tables.Periodicity.{Periodicity}
-use Rattle.reg_base.specs.declared.tables.Row.{Row}
 use Rattle.reg_base.specs.Records.{Booked, amount_at}
 use Rattle.reg_base.specs.Sums.{sum_over, in_order_once, has_number}
 use Rattle.reg_base.specs.Turnovers.{RowKey, key_cmp, key_of, is_of, receipt_at, expense_at}
 use Rattle.reg_base.specs.Turnovers.{sums_where, turnover_row, turnover_rows, has_movement}
+use Rattle.reg_base.proofs.ForTables.{sum_over-map}
 use Rattle.table_sums.specs.declared.sums.UnitSums.{UnitSums}
 use Rattle.table_sums.specs.Additions.{number_at, added_at, sums_at, row_with, keys_in, rows_over}
 use Rattle.table_sums.proofs.ForAbove.{range-get, range-same}
-use Rattle.virt_tables.specs.Columns.{numbers_of, width_of, addition_of, row_from}
-use Rattle.virt_tables.proofs.ListLemmas.{map-map, sum_over-map, take-front, drop-front}
+use Rattle.virt_tables.specs.Columns.{columns_of, numbers_of, width_of, addition_of, row_from}
+use Rattle.virt_tables.proofs.ListLemmas.{map-map, take-front, drop-front}
 use Rattle.virt_tables.proofs.ListLemmas.{range-split, number_at-left, number_at-right}
 
 -- how many numbers a record has
 pub length-numbers_of : (balances : Bool) (n : ℕ) (rec : Rec)
-    → length (numbers_of balances n rec) ≡ width_of balances n
+    → length (numbers_of (columns_of balances) n rec) ≡ width_of balances n
 length-numbers_of false n rec = omega (
   arith,
   length-append (map (λ j. amount_at j rec) (range_with_len 0 n)) [],
@@ -102,7 +102,7 @@ module _ (n : ℕ) (group : Option (List ℕ)) (by : Periodicity) (bs : List Boo
   -- the sums of a key are the sums of the numbers of its records
   sums-columns : (balances : Bool)
       → sums_at (width_of balances n) (map (addition_of balances n group by) bs) key
-      ≡ columns of_key bs (width_of balances n) (λ b. number_at (numbers_of balances n b.rec))
+      ≡ columns of_key bs (width_of balances n) (λ b. number_at (numbers_of (columns_of balances) n b.rec))
   sums-columns balances =
       λ i. map (λ j. sum_over-map (added_at key j) (addition_of balances n group by) bs i)
       (range_with_len 0 (width_of balances n))

@@ -1,6 +1,6 @@
 -- The records that a balance counts, and how many records documents have.
 use Rattle.std.proofs.Common.{◌≡◌, ℕ, zero, suc, ◌+◌, ◌<◌, ◌≤◌, ◌*◌, ◌^◌, Bool, true, false}
-use Rattle.std.proofs.Common.{◌&&◌, cond, Some, None, List, [], ◌∷◌, ◌++◌, map}
+use Rattle.std.proofs.Common.{◌&&◌, cond, Option, Some, None, List, [], ◌∷◌, ◌++◌, map}
 use Rattle.std.proofs.Common.{length, refl, ap, ◌∙◌, sym, arith, take, get_or, length-append}
 use Rattle.std.specs.Prelude.{slice_get, unwrap_or}
 use Rattle.std.specs.List.{All, filter, flat_map}
@@ -17,7 +17,9 @@ use Rattle.reg_base.specs.Records.{Booked, is_posted, booked_by, point_of, match
 use Rattle.reg_base.specs.Records.{passes_each, chosen_records, records_within, records_of}
 use Rattle.reg_base.specs.Records.{without_recorder}
 use Rattle.reg_base.specs.Balances.{sum_rows, balance_of}
+use Rattle.reg_base.proofs.ForAbove.{balance_of-records_of}
 use Rattle.row_sums.proofs.ForAbove.{balance_of-others}
+use Rattle.virt_tables.proofs.ListLemmas.{filter-filter}
 use Rattle.row_sums.specs.Sums.{booked}
 use Rattle.virt_tables.specs.Bounds.{HasShortSets}
 use Rattle.virt_tables.specs.declared.cuts.Query.{Query}
@@ -166,3 +168,21 @@ documents-few q register ds i h few = omega (
   flat-short register (take i ds) (All-take HasShortSets i ds h),
   length-take i ds,
 )
+
+-- where nothing is left out, the rows are those of the register's balance
+pub rows-asked : (q : Query) (n register : ℕ) (group : Option (List ℕ)) (asked : Filter)
+    (cut : Cut) (documents : List Document) → q.resources ≡ n → option_copied q.by ≡ group
+    → q.filter.now ≡ asked → q.cut.now ≡ cut → q.skip ≡ None
+    → sum_rows q.resources (option_copied q.by)
+    (counted q (flat_map (booked_by register) documents))
+    ≡ balance_of n (records_of register documents) asked group cut
+rows-asked q n register group asked cut documents count by chosen within skip =
+    (λ i. sum_rows (count i) (by i) (filter (λ b. inside (within i) (point_of b))
+    (filter (λ b. matches (chosen i) b.rec.values)
+    (filter (λ b. is_other (skip i) b.recorder) (flat_map (booked_by register) documents)))))
+    ∙ ap (λ t. balance_of n t asked group cut)
+    (filter-true (flat_map (booked_by register) documents))
+    ∙ ap (sum_rows n group)
+    (filter-filter (λ b. inside cut (point_of b)) (λ b. matches asked b.rec.values)
+    (flat_map (booked_by register) documents))
+    ∙ sym (balance_of-records_of n register documents asked group cut)

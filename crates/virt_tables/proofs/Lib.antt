@@ -4,4 +4,3 @@ pub mod ForAbove
 mod LimitLemmas
 mod ListLemmas
 mod MoveLemmas
-mod OrderLemmas

@@ -1,20 +1,14 @@
 -- Lists: maps of maps, and numbers of a list at a column.
-use Rattle.std.proofs.Common.{◌≡◌, ℕ, zero, suc, ◌+◌, ◌<◌, ◌≤◌, ℤ, pos, ◌+ℤ◌, Bool, true, false}
+use Rattle.std.proofs.Common.{◌≡◌, ℕ, zero, suc, ◌+◌, ◌<◌, ℤ, pos, Bool, true, false}
 use Rattle.std.proofs.Common.{◌&&◌, cond, List, [], ◌∷◌, ◌++◌, map, length, refl, ap, ◌∙◌, sym, arith}
 use Rattle.std.proofs.Common.{take, drop}
 use Rattle.std.specs.List.{filter, range_with_len}
-use Rattle.reg_base.specs.Sums.{sum_over}
 use Rattle.table_sums.specs.Additions.{number_at}
 
 pub map-map : {X Y Z : Type 0} (f : Y → Z) (g : X → Y) (xs : List X)
     → map f (map g xs) ≡ map (λ x. f (g x)) xs
 map-map f g [] = refl
 map-map f g (x ∷ xs) = ap (λ t. f (g x) ∷ t) (map-map f g xs)
-
-pub sum_over-map : {X Y : Type 0} (f : Y → ℤ) (g : X → Y) (xs : List X)
-    → sum_over f (map g xs) ≡ sum_over (λ x. f (g x)) xs
-sum_over-map f g [] = refl
-sum_over-map f g (x ∷ xs) = ap (λ t. f (g x) +ℤ t) (sum_over-map f g xs)
 
 -- a filter of a filter is one filter
 pub filter-filter : {X : Type 0} (p q : X → Bool) (xs : List X)

@@ -1,7 +1,7 @@
 -- What records add to the sums of a table, list by list, and how many they are.
 use Rattle.std.proofs.Common.{◌≡◌, ℕ, ◌+◌, ◌<◌, ◌≤◌, ◌^◌, Bool, true, false, ◌&&◌, nat_le, cond}
 use Rattle.std.proofs.Common.{List, [], ◌∷◌, ◌++◌, map, length, refl, ap, ◌∙◌, sym, arith, take, get_or}
-use Rattle.std.specs.List.{All, filter, flat_map}
+use Rattle.std.specs.List.{All, flat_map}
 use Rattle.std.proofs.lemmas.List.{map-append, length-map, length-take, take_more, flat_map_more}
 use Rattle.std.proofs.lemmas.List.Elements.{filter-append, All-take}
 use Rattle.reg_base.specs.declared.records.Rec.{Rec}

@@ -1,5 +1,5 @@
 -- Private: rows put behind others, as long as they are no more than a table may have.
-use Rattle.std.specs.Prelude.{ℕ, nat_le, List, ◌++◌, length, Result, Ok}
+use Rattle.std.specs.Prelude.{ℕ, nat_le, List, length, Result, Ok}
 use Rattle.reg_base.specs.declared.fault.TableFault.{TableFault}
 use Rattle.reg_base.specs.declared.fault.TableFault.TheVariants.{TooManyRows}
 use Rattle.reg_base.specs.Results.{◌>>=◌, unless}

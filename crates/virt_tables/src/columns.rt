@@ -20,29 +20,30 @@ pub enum Column {
     Expense,
     /// The signed amounts.
     Amount,
+    /// Nothing: each number is 0.
+    Nothing,
 }
 
 /// The numbers of a record: those of all resources, column by column.
 pub(crate) fn numbers_of(
     alloc: Global,
-    balances: bool,
+    columns: &[Column],
     resources: usize,
     rec: &Rec,
 ) -> Result<Vec<i128>, Memory>
     ensures value { IfOk result (λ numbers. numbers.items
-        ≡ numbers_in balances resources rec.now) }
+        ≡ numbers_in columns.now resources rec.now) }
     ensures small { IfOk result (λ numbers. AreSmall numbers.items) }
 {
     let mut numbers = Vec::new(alloc);
-    let columns = columns_of(balances);
     for column in columns {
         push_column(&mut numbers, column, resources, rec)?;
     }
     Ok(numbers)
 }
 
-// The columns of a table: a register without balances has the last alone.
-fn columns_of(balances: bool) -> &'static [Column]
+/// The columns of turnovers: a register without balances has the last alone.
+pub(crate) fn columns_of(balances: bool) -> &'static [Column]
     ensures { result.now ≡ columns_in balances }
 {
     if balances {
@@ -79,6 +80,7 @@ fn column_at(column: &Column, rec: &Rec, resource: usize) -> i128
         Column::Receipt => receipt_at(rec, resource),
         Column::Expense => expense_at(rec, resource),
         Column::Amount => amount_at(rec, resource),
+        Column::Nothing => 0,
     }
 }
 

@@ -13,11 +13,15 @@
 #![tactic(auto)]
 
 mod ask;
+mod balance_table;
 mod columns;
 mod cuts;
+mod limits;
 mod moves;
 mod turnover_table;
 
 pub use ask::Ask;
+pub use balance_table::balance;
 pub use cuts::{Query, all_rows, balance_rows};
-pub use turnover_table::{ROW_LIMIT, turnovers};
+pub use limits::ROW_LIMIT;
+pub use turnover_table::turnovers;

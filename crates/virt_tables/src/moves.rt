@@ -10,7 +10,7 @@ ghost use Rattle.virt_tables.specs.Bounds.{HasShortSets};
 ghost use Rattle.virt_tables.specs.Columns.{width_of, moves_of, AddsMoves};
 
 use crate::ask::Ask;
-use crate::columns::numbers_of;
+use crate::columns::{columns_of, numbers_of};
 use crate::cuts::counted_set;
 use doc_store::Documents;
 use reg_base::{List, Memory, Periodicity, Point, Range, Rec, Unit, Value, unit_start};
@@ -85,7 +85,7 @@ fn add_moved(
         return Ok(());
     }
     let group = group_of(alloc, &moves.ask.group, rec.values.as_slice())?;
-    let numbers = numbers_of(alloc, moves.balances, moves.resources, rec)?;
+    let numbers = numbers_of(alloc, columns_of(moves.balances), moves.resources, rec)?;
     sums.add(alloc, group, unit_of(moves.range.by, rec, number), numbers)
 }
 
@@ -107,11 +107,7 @@ fn is_in_range(rec: &Rec, range: &Range) -> bool
 }
 
 // The values that a record is grouped by.
-fn group_of(
-    alloc: Global,
-    group: &Option<List<u8>>,
-    values: &[Value],
-) -> Result<Vec<Value>, Memory>
+fn group_of(alloc: Global, group: &Option<List<u8>>, values: &[Value]) -> Result<Vec<Value>, Memory>
     ensures { IfOk result (λ v. v.items ≡ values_of_group group.now values.now) }
 {
     match group {

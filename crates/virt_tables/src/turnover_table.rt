@@ -12,15 +12,13 @@ ghost use Rattle.virt_tables.specs.Columns.{row_from, turn_row as turn_row_of};
 ghost use Rattle.virt_tables.specs.Limits.{room_for, limited};
 
 use crate::ask::Ask;
+use crate::limits::check_room;
 use crate::moves::{Moves, moved_sums};
 use cfg_model::Register;
 use doc_store::Documents;
 use reg_base::{Fault, List, Memory, Range, Row, TableFault};
 use std::alloc::Global;
 use table_sums::UnitSums;
-
-/// How many rows a table has at the most.
-pub const ROW_LIMIT: usize = 100_000;
 
 /// The turnovers of a register: what its records of the range move, by group and unit.
 pub fn turnovers(
@@ -127,18 +125,6 @@ fn push_row(
     Ok(())
 }
 
-// Refuses one row more than a table may have.
-fn check_room(rows: &List<Row>) -> Result<(), Fault<TableFault>>
-    ensures { Tries result (room_for (length rows.now + 1)) }
-{
-    if rows.len() >= ROW_LIMIT {
-        return Err(Fault::Refused(TableFault::TooManyRows {
-            limit: ROW_LIMIT as u32,
-        }));
-    }
-    Ok(())
-}
-
 // Whether not all of the numbers are 0.
 fn has_number(numbers: &[i128]) -> bool
     ensures { result ≡ has_number_in numbers.now }
@@ -155,7 +141,11 @@ fn turnover_row(
 ) -> Result<Row, Memory>
     ensures { IfOk result (λ row. row ≡ row_from balances resources sums) }
 {
-    if balances { balance_row(alloc, resources, sums) } else { Ok(turn_row(alloc, sums)) }
+    if balances {
+        balance_row(alloc, resources, sums)
+    } else {
+        Ok(turn_row(alloc, sums))
+    }
 }
 
 // The row of a register with balances.

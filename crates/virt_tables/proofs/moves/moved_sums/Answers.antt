@@ -1,12 +1,11 @@
-use Rattle.std.proofs.Common.{◌≡◌, ◌+◌, ◌^◌, IfOk, List, [], length, ap, ◌∙◌, sym, subst, take}
+use Rattle.std.proofs.Common.{◌≡◌, ◌+◌, ◌^◌, List, [], length, ap, ◌∙◌, sym, subst, take}
 use Rattle.std.proofs.Common.{arith, refl}
 use Rattle.std.specs.List.{flat_map}
 use Rattle.std.proofs.lemmas.List.{take_all, length_push}
 use Rattle.std.proofs.lemmas.Iterator.Consumers.{YieldsList-from_first, YieldsList-turn}
 use Rattle.std.proofs.lemmas.Iterator.Consumers.{YieldsList-end}
 use Rattle.reg_base.specs.declared.records.Document.{Document}
-use Rattle.reg_base.specs.Records.{Booked, booked_by}
-use Rattle.table_sums.specs.declared.sums.UnitSums.{UnitSums}
+use Rattle.reg_base.specs.Records.{booked_by}
 use Rattle.table_sums.specs.Additions.{Addition, Adds, rows_over}
 use Rattle.table_sums.proofs.ForAbove.{Adds-none, Adds-both, reach-more}
 use Rattle.virt_tables.specs.Bounds.{HasShortSets}

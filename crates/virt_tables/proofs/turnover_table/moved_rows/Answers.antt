@@ -1,12 +1,11 @@
-use Rattle.std.proofs.Common.{◌≡◌, List, [], ◌∷◌, ◌++◌, map, length, ap, ◌∙◌, sym, append_assoc}
+use Rattle.std.proofs.Common.{◌≡◌, [], ◌∷◌, ◌++◌, map, length, ap, ◌∙◌, sym, append_assoc}
 use Rattle.std.specs.List.{filter}
 use Rattle.std.specs.Vec.Iter.{into_iter_items}
-use Rattle.std.proofs.lemmas.List.{append-nil}
 use Rattle.std.proofs.lemmas.List.Elements.{filter-append}
 use Rattle.reg_base.specs.Turnovers.{has_movement}
 use Rattle.virt_tables.specs.Columns.{row_from}
 use Rattle.virt_tables.specs.Limits.{room_for}
-use Rattle.virt_tables.proofs.LimitLemmas.{le-room, limited-Ok, limited-fault}
+use Rattle.virt_tables.proofs.LimitLemmas.{le-room}
 use Rattle.virt_tables.proofs.turnover_table.moved_rows.Goals as goal
 
 pub loop-unit-preserved : goal.loop-unit-preserved

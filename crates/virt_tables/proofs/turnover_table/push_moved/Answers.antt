@@ -1,12 +1,10 @@
-use Rattle.std.proofs.Common.{◌≡◌, ◌+◌, ◌≤◌, [], ◌∷◌, ◌++◌, true, false, length, ap, ◌∙◌, sym, subst, arith}
+use Rattle.std.proofs.Common.{◌≡◌, [], ◌∷◌, ◌++◌, length, ap, ◌∙◌, sym, subst}
 use Rattle.std.proofs.Common.{length-append}
-use Rattle.std.specs.List.{filter}
 use Rattle.std.proofs.lemmas.List.{append-nil}
 use Rattle.reg_base.specs.declared.tables.Row.{Row}
 use Rattle.std.specs.Result.{OnOk}
 use Rattle.reg_base.specs.Tries.{Tries}
 use Rattle.reg_base.specs.Sums.{has_number}
-use Rattle.reg_base.specs.Turnovers.{has_movement}
 use Rattle.virt_tables.specs.Columns.{row_from}
 use Rattle.virt_tables.specs.Limits.{room_for}
 use Rattle.virt_tables.proofs.ColumnLemmas.{has_number-row_from}

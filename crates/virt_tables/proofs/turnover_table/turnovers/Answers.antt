@@ -1,15 +1,14 @@
-use Rattle.std.proofs.Common.{◌≡◌, ℕ, List, map, length, ap, ◌∙◌, sym, subst}
+use Rattle.std.proofs.Common.{List, map, length, ap, ◌∙◌, sym, subst}
 use Rattle.std.specs.List.{filter, flat_map}
-use Rattle.reg_base.specs.declared.tables.Row.{Row}
 use Rattle.reg_base.specs.Tries.{Tries}
 use Rattle.reg_base.specs.Records.{Booked, booked_by, records_of, chosen_records}
-use Rattle.reg_base.specs.Turnovers.{in_range, turnover_rows, turnovers_of, table_of}
+use Rattle.reg_base.specs.Turnovers.{in_range, turnover_rows, turnovers_of}
 use Rattle.reg_base.specs.Turnovers.{has_movement}
 use Rattle.virt_tables.specs.Columns.{row_from}
 use Rattle.virt_tables.specs.Limits.{limited}
 use Rattle.virt_tables.proofs.ColumnLemmas.{shown-moves}
 use Rattle.virt_tables.proofs.LimitLemmas.{table_of-range}
-use Rattle.virt_tables.proofs.OrderLemmas.{turnovers_of-records_of}
+use Rattle.reg_base.proofs.ForTables.{turnovers_of-records_of}
 use Rattle.virt_tables.proofs.turnover_table.turnovers.Goals as goal
 
 pub returns : goal.returns
