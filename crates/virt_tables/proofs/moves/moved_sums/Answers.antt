@@ -51,8 +51,7 @@ loop-document-preserved c =
     let added : AddsMoves m (booked_by m.ask.now.register c.in-Some.document.now)
     c.loop-document.sums c.add_set.new.sums =
     subst (λ xs. AddsMoves m xs c.loop-document.sums c.add_set.new.sums)
-    (c.counted_set-set.ensures.value
-    ∙ ap (λ r. booked_by r c.in-Some.document.now) c.from.ensures) c.in_ok-add_set.ensures in
+    c.counted_set-set.ensures.value c.in_ok-add_set.ensures in
     let P : List Addition → Type 0 = λ xs. Adds width xs [] c.add_set.new.sums in
     subst P
     (documents-moves m (booked_by m.ask.now.register) c.args.documents
