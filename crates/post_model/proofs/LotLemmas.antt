@@ -195,27 +195,24 @@ lot_places-length : (place : ℕ) (ds : List Dimension)
     → length (lot_places place ds) ≡ length (filter (λ d. d.lot) ds)
 unfolding lot_places
 lot_places-length place [] = refl
-lot_places-length place (d ∷ ds) = at d.lot
+lot_places-length place (d ∷ ds) = at (lot_places-length (suc place) ds) d.lot
   where
-    ih : length (lot_places (suc place) ds) ≡ length (filter (λ e. e.lot) ds)
-    ih = lot_places-length (suc place) ds
-
-    at : (b : Bool) → length (lot_places place (record d { lot = b } ∷ ds))
+    at : length (lot_places (suc place) ds) ≡ length (filter (λ e. e.lot) ds) → (b : Bool)
+        → length (lot_places place (record d { lot = b } ∷ ds))
         ≡ length (filter (λ e. e.lot) (record d { lot = b } ∷ ds))
-    unfolding lot_places
-    at true = ap suc ih
-    at false = ih
+    at others true = ap suc others
+    at others false = others
 
 -- under a configuration within its limits what is left is told apart by one dimension at the most
 told_apart-few : (config : Config) (register : ℕ) (fifo : Bool) → IsWithinLimits config
     → length (told_apart config register fifo) ≤ 1
+unfolding lot_places
 told_apart-few config register false limits = omega arith
 told_apart-few config register true limits =
     at (slice_get config.registers register) refl
   where
     at : (found : Option Register) → slice_get config.registers register ≡ found
         → length (lot_places 0 (dimensions_of found)) ≤ 1
-    unfolding lot_places
     at None is = omega arith
     at (Some r) is =
         let within : IsRegisterWithinLimits r = subst IsRegisterWithinLimits
