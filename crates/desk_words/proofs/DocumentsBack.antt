@@ -20,6 +20,7 @@ use Rattle.desk_words.specs.declared.request.Write.{Write}
 use Rattle.desk_words.specs.declared.request.Manual.{Manual}
 use Rattle.desk_words.specs.Members.{operation_named}
 use Rattle.desk_words.specs.Shapes.{OrFault, value_at, json_number, json_code, json_comment}
+use Rattle.desk_words.specs.ReadRequests.{heading_of}
 use Rattle.desk_words.specs.ReadRequests.{key_beside, write_request, manual_request}
 use Rattle.desk_words.specs.Reading.{operation_of, check_present, check_known, members_of}
 use Rattle.desk_words.specs.JsonValues.{whole}
@@ -90,7 +91,7 @@ content-asks op w no_tx = (
 
 content-back : (op : List ℕ) (w : Write) → IsWriteRequest w
     → write_request (write_members op w) ≡ Ok w
-unfolding write_request key_beside value_at write_frame
+unfolding write_request heading_of key_beside value_at write_frame
 content-back op w h =
     rw (
       content_found op w (codes "clerk") refl,
@@ -224,7 +225,7 @@ manual-asks m no_tx = (
 
 manual-back : (m : Manual) → IsManualRequest m
     → members_of Manual_op (manual_members m) ≡ Ok (Manual_request m)
-unfolding members_of manual_request key_beside value_at manual_frame
+unfolding members_of manual_request heading_of key_beside value_at manual_frame
 manual-back m h =
     rw (
       manual_found m (codes "clerk") refl,

@@ -45,6 +45,7 @@ use Rattle.desk_words.specs.declared.tables.AccountTurnovers.{AccountTurnovers}
 use Rattle.desk_words.specs.declared.tables.DrCr.{DrCr}
 use Rattle.desk_words.specs.declared.tables.DocumentsQuestion.{DocumentsQuestion}
 use Rattle.desk_words.specs.Shapes.{OrFault, value_at, json_boolean}
+use Rattle.desk_words.specs.ReadRequests.{standing_document}
 use Rattle.desk_words.specs.ReadRequests.{switch_request, close_request, sweep_request}
 use Rattle.desk_words.specs.ReadRequests.{doc_question}
 use Rattle.desk_words.specs.Reading.{operation_of, check_present, check_known, members_of}
@@ -74,7 +75,7 @@ switched-same s h = λ i. record s { tx = h.no_tx i }
 
 switch-back : (op : List ℕ) (s : Switch) → IsSwitch s
     → switch_request (switch_members op (switched s)) ≡ Ok (switched s)
-unfolding switch_request value_at switch_members json_boolean
+unfolding switch_request standing_document value_at switch_members json_boolean
 switch-back op s h =
     rw (
       json_name-back _ s.clerk h.clerk,
@@ -167,7 +168,7 @@ close_text-back c h =
 
 sweep-back : (s : Sweep) → IsSweepRequest s
     → members_of Sweep_op (sweep_members s) ≡ Ok (Sweep_request s)
-unfolding members_of sweep_request value_at sweep_members
+unfolding members_of sweep_request standing_document value_at sweep_members
 sweep-back s h =
     rw (
       json_name-back _ s.clerk h.clerk,

@@ -290,7 +290,8 @@ pub json_account_by-back : (m : Member) (by : Periodicity) → IsAccountBy by
 unfolding json_account_by json_text
 json_account_by-back m by is = rw is
 
-pub json_method-back : (m : Member) (method : Method) → json_method m (method_data method) ≡ Ok method
+pub json_method-back : (m : Member) (method : Method)
+    → json_method m (method_data method) ≡ Ok method
 unfolding json_method json_text
 json_method-back m Movements = refl
 json_method-back m MovementsAndPeriodBoundaries = refl

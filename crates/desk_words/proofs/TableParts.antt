@@ -103,8 +103,8 @@ of_register r es =
     ∷ (codes "filter", option_map filters_data r.filter)
     ∷ (codes "register", Some (string r.name)) ∷ es
 
-pub register_plain : (r : AskedRegister) → IsAskedRegister r → (es : List Entry) → ArePlainEntries es
-    → ArePlainEntries (of_register r es)
+pub register_plain : (r : AskedRegister) → IsAskedRegister r → (es : List Entry)
+    → ArePlainEntries es → ArePlainEntries (of_register r es)
 register_plain r h es plain = (
   (
     IsUtf8-tested (codes "group") refl,
@@ -142,8 +142,8 @@ of_accounts a es =
     ∷ (codes "account", option_map string a.account)
     ∷ (codes "ledger", Some (string a.ledger)) ∷ es
 
-pub accounts_plain : (a : AskedAccounts) → IsAskedAccounts a → (es : List Entry) → ArePlainEntries es
-    → ArePlainEntries (of_accounts a es)
+pub accounts_plain : (a : AskedAccounts) → IsAskedAccounts a → (es : List Entry)
+    → ArePlainEntries es → ArePlainEntries (of_accounts a es)
 accounts_plain a h es plain = (
   (
     IsUtf8-tested (codes "extras") refl,

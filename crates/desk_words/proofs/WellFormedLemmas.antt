@@ -32,6 +32,7 @@ use Rattle.desk_words.specs.declared.members.Operation.TheVariants.{AccountTurno
 use Rattle.desk_words.specs.declared.members.Operation.TheVariants.{AccountBoth as Whole_op}
 use Rattle.desk_words.specs.declared.members.Operation.TheVariants.{DrCr as DrCr_op}
 use Rattle.desk_words.specs.declared.members.Operation.TheVariants.{Documents as Documents_op}
+use Rattle.desk_words.specs.declared.read_requests.Heading.{Heading}
 use Rattle.desk_words.specs.declared.request.Request.{Request}
 use Rattle.desk_words.specs.declared.request.Request.TheVariants.{Write as Write_request}
 use Rattle.desk_words.specs.declared.request.Request.TheVariants.{Mark as Mark_request}
@@ -56,7 +57,7 @@ use Rattle.desk_words.specs.Shapes.{required_at, json_name, json_code, json_numb
 use Rattle.desk_words.specs.Shapes.{json_boolean, json_comment}
 use Rattle.desk_words.specs.Sets.{json_sets}
 use Rattle.desk_words.specs.Fields.{json_fields, json_lines}
-use Rattle.desk_words.specs.ReadRequests.{key_beside, write_request, switch_request}
+use Rattle.desk_words.specs.ReadRequests.{key_beside, heading_of, write_request, switch_request}
 use Rattle.desk_words.specs.ReadRequests.{manual_request, close_request, sweep_request}
 use Rattle.desk_words.specs.ReadRequests.{doc_question, standing_document}
 use Rattle.desk_words.specs.ReadRequests.{standing_post}
@@ -102,16 +103,33 @@ key_beside-Is doc object h =
     IfOk-unless (IsKeyBeside doc) (is_none doc || is_none key) (BadMember Key) (λ _. Ok key)
     (λ is. (k, stands_alone doc key is)))
 
+-- whose request it is, and which document it is of
+record IsHeading (given : Heading) : Type 0 where
+  clerk : IsName given.clerk
+  number : IsNumber given.no
+  doc : IfSome given.doc IsNumber
+  key : IsKeyBeside given.doc given.key
+
+heading-Is : (object : Members) → AreRead object → IfOk (heading_of object) IsHeading
+unfolding heading_of
+heading-Is object h =
+    asked IsName IsHeading json_name json_name-IsName Clerk object h _ (λ clerk c.
+    asked IsNumber IsHeading json_number json_number-IsNumber No object h _ (λ nr n.
+    allowed IsNumber IsHeading json_number json_number-IsNumber Doc_word object h _ (λ doc d.
+    IfOk-then (IsKeyBeside doc) IsHeading (key_beside doc object) _
+    (key_beside-Is doc object h) (λ key k. record {
+      clerk = c;
+      number = n;
+      doc = d;
+      key = k;
+    }))))
+
 -- ---- requests
 
 write_request-Is : (object : Members) → AreRead object → IfOk (write_request object) IsWriteRequest
 unfolding write_request
 write_request-Is object h =
-    asked IsName IsWriteRequest json_name json_name-IsName Clerk object h _ (λ clerk c.
-    asked IsNumber IsWriteRequest json_number json_number-IsNumber No object h _ (λ nr n.
-    allowed IsNumber IsWriteRequest json_number json_number-IsNumber Doc_word object h _ (λ doc d.
-    IfOk-then (IsKeyBeside doc) IsWriteRequest (key_beside doc object) _
-    (key_beside-Is doc object h) (λ key k.
+    IfOk-then IsHeading IsWriteRequest (heading_of object) _ (heading-Is object h) (λ given g.
     asked IsName IsWriteRequest json_name json_name-IsName Kind object h _ (λ kind l.
     asked IsDate IsWriteRequest json_date json_date-IsDate Date object h _ (λ date t.
     asked AreFields IsWriteRequest json_fields json_fields-Are Head object h _ (λ head f.
@@ -119,18 +137,18 @@ write_request-Is object h =
     (λ lines fs.
     allowed IsComment IsWriteRequest json_comment json_comment-IsComment Comment object h _
     (λ comment m. record {
-      clerk = c;
-      number = n;
-      doc = d;
-      key = k.0;
-      alone = k.1;
+      clerk = g.clerk;
+      number = g.number;
+      doc = g.doc;
+      key = g.key.0;
+      alone = g.key.1;
       kind = l;
       date = t;
       head = f;
       lines = fs;
       comment = m;
       no_tx = refl;
-    })))))))))
+    }))))))
 
 standing_document-Is : (object : Members) → AreRead object
     → IfOk (standing_document object) IsStandingDocument
@@ -159,40 +177,35 @@ standing_post-Is object h =
 switch_request-Is : (object : Members) → AreRead object → IfOk (switch_request object) IsSwitch
 unfolding switch_request
 switch_request-Is object h =
-    asked IsName IsSwitch json_name json_name-IsName Clerk object h _ (λ clerk c.
-    asked IsNumber IsSwitch json_number json_number-IsNumber No object h _ (λ nr n.
-    asked IsNumber IsSwitch json_number json_number-IsNumber Doc_word object h _ (λ doc d.
+    IfOk-then IsStandingDocument IsSwitch (standing_document object) _
+    (standing_document-Is object h) (λ standing s.
     IfOk-next IsSwitch (required_at json_boolean On object) _ (λ on. record {
-      clerk = c;
-      number = n;
-      doc = d;
+      clerk = s.clerk;
+      number = s.number;
+      doc = s.doc;
       no_tx = refl;
-    }))))
+    }))
 
 manual_request-Is : (object : Members) → AreRead object
     → IfOk (manual_request object) IsManualRequest
 unfolding manual_request
 manual_request-Is object h =
-    asked IsName IsManualRequest json_name json_name-IsName Clerk object h _ (λ clerk c.
-    asked IsNumber IsManualRequest json_number json_number-IsNumber No object h _ (λ nr n.
-    allowed IsNumber IsManualRequest json_number json_number-IsNumber Doc_word object h _ (λ doc d.
-    IfOk-then (IsKeyBeside doc) IsManualRequest (key_beside doc object) _
-    (key_beside-Is doc object h) (λ key k.
+    IfOk-then IsHeading IsManualRequest (heading_of object) _ (heading-Is object h) (λ given g.
     asked IsDate IsManualRequest json_date json_date-IsDate Date object h _ (λ date t.
     asked (AllByRecursion IsSetText) IsManualRequest json_sets json_sets-Is Sets object h _
     (λ sets s.
     allowed IsComment IsManualRequest json_comment json_comment-IsComment Comment object h _
     (λ comment m. record {
-      clerk = c;
-      number = n;
-      doc = d;
-      key = k.0;
-      alone = k.1;
+      clerk = g.clerk;
+      number = g.number;
+      doc = g.doc;
+      key = g.key.0;
+      alone = g.key.1;
       date = t;
       sets = s;
       comment = m;
       no_tx = refl;
-    })))))))
+    }))))
 
 close_request-Is : (object : Members) → AreRead object → IfOk (close_request object) IsCloseRequest
 unfolding close_request
@@ -208,14 +221,12 @@ close_request-Is object h =
 sweep_request-Is : (object : Members) → AreRead object → IfOk (sweep_request object) IsSweepRequest
 unfolding sweep_request
 sweep_request-Is object h =
-    asked IsName IsSweepRequest json_name json_name-IsName Clerk object h _ (λ clerk c.
-    asked IsNumber IsSweepRequest json_number json_number-IsNumber No object h _ (λ nr n.
-    asked IsNumber IsSweepRequest json_number json_number-IsNumber Doc_word object h _ (λ doc d.
-    record {
-      clerk = c;
-      number = n;
-      doc = d;
-    })))
+    IfOk-then IsStandingDocument IsSweepRequest (standing_document object) _
+    (standing_document-Is object h) (λ standing s. record {
+      clerk = s.clerk;
+      number = s.number;
+      doc = s.doc;
+    })
 
 doc_question-Is : (object : Members) → AreRead object → IfOk (doc_question object) IsDocQuestion
 unfolding doc_question

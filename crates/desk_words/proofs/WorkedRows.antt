@@ -31,6 +31,7 @@ use Rattle.desk_words.specs.Shapes.{value_at, json_object, json_items, json_text
 use Rattle.desk_words.specs.Shapes.{json_date, json_cut, json_number, json_texts}
 use Rattle.desk_words.specs.Sets.{json_mark, register_record, json_record, json_records, json_set}
 use Rattle.desk_words.specs.Sets.{json_sets}
+use Rattle.desk_words.specs.ReadRequests.{heading_of}
 use Rattle.desk_words.specs.ReadRequests.{key_beside, manual_request}
 use Rattle.desk_words.specs.ReadTables.{asked_register, balance_request}
 use Rattle.desk_words.specs.Reading.{operation_of, check_present, check_known, members_of}
@@ -91,9 +92,9 @@ a_manual_document :
       comment = None;
       tx = None;
     }))
-unfolding request_in operation_of check_present check_known members_of manual_request key_beside
-    value_at json_object json_items json_text json_name json_date json_number json_texts json_mark
-    register_record json_record json_records json_set json_sets is_name
+unfolding request_in operation_of check_present check_known members_of manual_request heading_of
+    key_beside value_at json_object json_items json_text json_name json_date json_number json_texts
+    json_mark register_record json_record json_records json_set json_sets is_name
 a_manual_document = rw morning_date
 
 a_balance :
@@ -108,8 +109,8 @@ a_balance :
       tx = None;
     }))
 unfolding request_in operation_of check_present check_known members_of balance_request
-    asked_register
-    value_at json_text json_name json_cut is_name parse_cut cut_by_word cut_through cut_before
+    asked_register value_at json_text json_name json_cut is_name parse_cut cut_by_word cut_through
+    cut_before
 a_balance = rw morning_date
 
 no_operation : request_in (member (codes "clerk") (string (codes "anna")) no_members)
@@ -149,8 +150,7 @@ two_wrong_members :
     (member (codes "register") (string (codes "goods")) no_members))))
     ≡ Err (BadMember Clerk)
 unfolding request_in operation_of check_present check_known members_of balance_request value_at
-    asked_register
-    json_text json_name is_name
+    asked_register json_text json_name is_name
 two_wrong_members = refl
 
 null_for_a_cut :
@@ -160,8 +160,7 @@ null_for_a_cut :
     (member (codes "register") (string (codes "goods")) no_members))))
     ≡ Err (BadMember Cut_word)
 unfolding request_in operation_of check_present check_known members_of balance_request
-    asked_register
-    value_at json_text json_name json_cut is_name
+    asked_register value_at json_text json_name json_cut is_name
 null_for_a_cut = refl
 
 rows_of_nails :
@@ -169,8 +168,8 @@ rows_of_nails :
     (Done (Rows ((record { group = Code (codes "nail") ∷ []; sums = pos 10000 ∷ pos 5000 ∷ [] })
     ∷ []) (3 ∷ 2 ∷ [])))
     ≡ codes "{\"ok\":{\"rows\":[{\"group\":[\"nail\"],\"sums\":[\"10.000\",\"50.00\"]}]}}"
-unfolding reply_text reply_data answer_data row_data texts_data sum_text units_text
-    number_text escape_byte
+unfolding reply_text reply_data answer_data row_data texts_data sum_text units_text number_text
+    escape_byte
 rows_of_nails = refl
 
 a_posted_document :
