@@ -11,7 +11,8 @@
 //! Leaves open: what the columns are, and how much memory the sums take.
 #![tactic(auto)]
 
-mod added;
+mod column_sums;
 mod sums;
 
+pub use column_sums::added;
 pub use sums::{TableSums, UnitSums};

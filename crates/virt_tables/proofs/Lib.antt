@@ -1,3 +1,4 @@
+mod BothLemmas
 mod ColumnLemmas
 mod CutLemmas
 pub mod ForAbove

@@ -71,7 +71,7 @@ module _ (m : Moves) where
 
   -- a set is short
   pub set-few-moves : (number : ℕ) (set : List Rec) (i : ℕ) → length set ≤ 5_000
-      → 2 ^ 45 + length (moves_of m (map (booked number) (take i set))) ≤ 2 ^ 46
+      → 2 ^ 45 + length (moves_of m (map (booked number) (take i set))) ≤ 2 ^ 60
   set-few-moves number set i short = omega (
     arith,
     moves-short (map (booked number) (take i set)),

@@ -1,3 +1,4 @@
+pub mod Both
 pub mod Bounds
 pub mod Columns
 pub mod Cuts

@@ -1,5 +1,7 @@
 -- Private: rows put behind others, as long as they are no more than a table may have.
-use Rattle.std.specs.Prelude.{ℕ, nat_le, List, length, Result, Ok}
+use Rattle.std.specs.Prelude.{◌≡◌, ℕ, nat_le, List, length, Result, Ok, Err}
+use Rattle.reg_base.specs.declared.tried.Fault.{Fault}
+use Rattle.reg_base.specs.declared.tried.Fault.TheVariants.{Refused, Memory}
 use Rattle.reg_base.specs.declared.fault.TableFault.{TableFault}
 use Rattle.reg_base.specs.declared.fault.TableFault.TheVariants.{TooManyRows}
 use Rattle.reg_base.specs.Results.{◌>>=◌, unless}
@@ -12,3 +14,9 @@ room_for count = unless (nat_le count row_limit) (TooManyRows row_limit)
 -- rows, where they are no more than a table may have
 abbrev pub limited : {R : Type 0} → List R → Result (List R) TableFault
 limited rows = room_for (length rows) >>= λ _. Ok rows
+
+-- the call makes something where so many rows have room, and else is refused
+abbrev pub TriesRoom : {X : Type 0} → ℕ → Result X (Fault TableFault) → Type 0
+TriesRoom count (Ok x) = room_for count ≡ Ok tt
+TriesRoom count (Err (Refused fault)) = room_for count ≡ Err fault
+TriesRoom count (Err Memory) = Unit

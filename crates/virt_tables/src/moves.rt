@@ -3,7 +3,7 @@ ghost use Rattle.std.specs.Prelude.{◌≡◌, ◌≤◌, ◌<◌, ◌^◌, ◌&
 ghost use Rattle.std.specs.List.{flat_map};
 ghost use Rattle.reg_base.specs.Records.{booked_by, matches as matches_of};
 ghost use Rattle.reg_base.specs.Balances.{group_values as values_of_group};
-ghost use Rattle.reg_base.specs.Turnovers.{unit_of as unit_in};
+ghost use Rattle.reg_base.specs.Turnovers.{unit_of as unit_in, unit_of_date as unit_in_date};
 ghost use Rattle.row_sums.specs.Sums.{booked};
 ghost use Rattle.table_sums.specs.Additions.{AreInReach, rows_over};
 ghost use Rattle.virt_tables.specs.Bounds.{HasShortSets};
@@ -13,7 +13,7 @@ use crate::ask::Ask;
 use crate::columns::{columns_of, numbers_of};
 use crate::cuts::counted_set;
 use doc_store::Documents;
-use reg_base::{List, Memory, Periodicity, Point, Range, Rec, Unit, Value, unit_start};
+use reg_base::{Date, List, Memory, Periodicity, Point, Range, Rec, Unit, Value, unit_start};
 use row_sums::{group_values, matches};
 use std::alloc::Global;
 use table_sums::TableSums;
@@ -77,7 +77,7 @@ fn add_moved(
     number: u32,
     moves: &Moves<'_>,
 ) -> Result<(), Memory>
-    requires { AreInReach (2 ^ 46) sums.old }
+    requires { AreInReach (2 ^ 60) sums.old }
     ensures { IfOk result (λ _.
         AddsMoves moves.now (booked number rec.now ∷ []) sums.old sums.new) }
 {
@@ -106,8 +106,8 @@ fn is_in_range(rec: &Rec, range: &Range) -> bool
     range.from <= rec.period && rec.period <= range.to
 }
 
-// The values that a record is grouped by.
-fn group_of(alloc: Global, group: &Option<List<u8>>, values: &[Value]) -> Result<Vec<Value>, Memory>
+/// The values that a record is grouped by.
+pub(crate) fn group_of(alloc: Global, group: &Option<List<u8>>, values: &[Value]) -> Result<Vec<Value>, Memory>
     ensures { IfOk result (λ v. v.items ≡ values_of_group group.now values.now) }
 {
     match group {
@@ -135,5 +135,23 @@ pub(crate) fn unit_of(by: Periodicity, rec: &Rec, number: u32) -> Unit
         | Periodicity::Quarter
         | Periodicity::HalfYear
         | Periodicity::Year => Unit::Start(unit_start(by, rec.period)),
+    }
+}
+
+/// The unit that a date lies in, where units are periods.
+pub(crate) fn unit_of_date(by: Periodicity, date: Date) -> Unit
+    ensures { result ≡ unit_in_date by date }
+{
+    match by {
+        Periodicity::Period => Unit::Whole,
+        Periodicity::Record
+        | Periodicity::Recorder
+        | Periodicity::Day
+        | Periodicity::Week
+        | Periodicity::TenDays
+        | Periodicity::Month
+        | Periodicity::Quarter
+        | Periodicity::HalfYear
+        | Periodicity::Year => Unit::Start(unit_start(by, date)),
     }
 }

@@ -12,7 +12,7 @@ ghost use Rattle.virt_tables.specs.Columns.{row_from, turn_row as turn_row_of};
 ghost use Rattle.virt_tables.specs.Limits.{room_for, limited};
 
 use crate::ask::Ask;
-use crate::limits::check_room;
+use crate::limits::push_limited;
 use crate::moves::{Moves, moved_sums};
 use cfg_model::Register;
 use doc_store::Documents;
@@ -91,42 +91,12 @@ fn push_moved(
     if !has_number(sums.sums.as_slice()) {
         return Ok(());
     }
-    push_limited(alloc, rows, moves, sums)
-}
-
-// Puts the row of sums behind the others, where it has room.
-fn push_limited(
-    alloc: Global,
-    rows: &mut List<Row>,
-    moves: &Moves<'_>,
-    sums: UnitSums,
-) -> Result<(), Fault<TableFault>>
-    ensures rows { OnOk result (rows.new ≡ rows.old
-        ++ row_from moves.now.balances moves.now.resources sums ∷ []) }
-    ensures room { Tries result (room_for (length rows.old + 1)) }
-{
-    check_room(rows)?;
-    push_row(alloc, rows, moves, sums)?;
-    Ok(())
-}
-
-// Puts the row of sums behind the others.
-fn push_row(
-    alloc: Global,
-    rows: &mut List<Row>,
-    moves: &Moves<'_>,
-    sums: UnitSums,
-) -> Result<(), Memory>
-    ensures { OnOk result (rows.new ≡ rows.old
-        ++ row_from moves.now.balances moves.now.resources sums ∷ []) }
-{
     let row = turnover_row(alloc, moves.balances, moves.resources, sums)?;
-    rows.push(row)?;
-    Ok(())
+    push_limited(rows, row)
 }
 
-// Whether not all of the numbers are 0.
-fn has_number(numbers: &[i128]) -> bool
+/// Whether not all of the numbers are 0.
+pub(crate) fn has_number(numbers: &[i128]) -> bool
     ensures { result ≡ has_number_in numbers.now }
 {
     numbers.iter().any(|number| *number != 0)
@@ -148,8 +118,8 @@ fn turnover_row(
     }
 }
 
-// The row of a register with balances.
-fn balance_row(alloc: Global, resources: usize, sums: UnitSums) -> Result<Row, Memory>
+/// The row of a register with balances.
+pub(crate) fn balance_row(alloc: Global, resources: usize, sums: UnitSums) -> Result<Row, Memory>
     ensures { IfOk result (λ row. row ≡ row_from true resources sums) }
 {
     let (receipt, others) = split(sums.sums.as_slice(), resources);
@@ -184,8 +154,8 @@ fn turn_row(alloc: Global, sums: UnitSums) -> Row
     }
 }
 
-// The numbers up to a place, and those behind it.
-fn split(numbers: &[i128], place: usize) -> (&[i128], &[i128])
+/// The numbers up to a place, and those behind it.
+pub(crate) fn split(numbers: &[i128], place: usize) -> (&[i128], &[i128])
     ensures front { result.0.now ≡ take place numbers.now }
     ensures back { result.1.now ≡ drop place numbers.now }
 {

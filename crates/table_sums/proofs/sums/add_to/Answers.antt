@@ -1,14 +1,15 @@
-use Rattle.std.proofs.Common.{◌^◌, ap, ◌∙◌, sym, is_eq}
+use Rattle.std.proofs.Common.{arith, ◌^◌, ap, ◌∙◌, sym, is_eq}
+use Rattle.table_sums.specs.Additions.{number_at}
 use Rattle.table_sums.specs.Rows.{key_seen, rows_of}
 use Rattle.table_sums.proofs.KeyOrder.{derived-key_cmp}
 use Rattle.table_sums.proofs.RowLemmas.{sums_seen, sums_seen-lookup, rows_of-insert_entry, with_row}
-use Rattle.table_sums.proofs.ReachLemmas.{found-reach}
+use Rattle.table_sums.proofs.ReachLemmas.{found-reach, more-reach}
 use Rattle.table_sums.proofs.AddLemmas.{Adds-found, Adds-made}
 use Rattle.table_sums.proofs.sums.add_to.Goals as goal
 
 pub total-requires-clause-reach : goal.total-requires-clause-reach
 total-requires-clause-reach c =
-    λ j. found-reach (2 ^ 46) (key_seen c.args.key) c.in-Some.found.now.items
+    λ j. found-reach (2 ^ 60) (key_seen c.args.key) c.in-Some.found.now.items
     (rows_of c.args.sums.now.entries)
     (sym (sums_seen-lookup (key_seen c.args.key) _
     (λ x. ap is_eq (derived-key_cmp c.args.key x)) c.args.sums.now.entries)
@@ -34,3 +35,7 @@ returns-in_ok-insert-in-None c =
     ∙ rows_of-insert_entry c.args.key _ derived-key_cmp _ c.args.numbers
     ∙ ap (λ m. with_row (key_seen c.args.key) c.args.numbers.items (rows_of m.entries))
     c.get_mut.follows.holds-at-none)
+
+pub total-requires-clause-small : goal.total-requires-clause-small
+total-requires-clause-small c =
+    λ j. more-reach 1 (2 ^ 60) (number_at c.args.numbers.items j) (omega arith) (c.requires.small j)

@@ -15,7 +15,7 @@ loop-rec-init c =
 pub add_moved-requires : goal.add_moved-requires
 add_moved-requires c =
     reach-more (2 ^ 45 + length (moves_of c.args.moves.now
-    (map (booked c.args.number) (take c.loop-rec.rec-index c.args.set.now)))) (2 ^ 46)
+    (map (booked c.args.number) (take c.loop-rec.rec-index c.args.set.now)))) (2 ^ 60)
     (set-few-moves c.args.moves.now c.args.number c.args.set.now c.loop-rec.rec-index
     c.requires.short)
     c.loop-rec.sums (c.loop-rec.invariant.reach (2 ^ 45) c.requires.reach)

@@ -36,7 +36,8 @@ returns-clause-rows c =
     let m = c.args.moves.now in
     let row : Row = row_from m.balances m.resources c.args.sums in
     subst (λ t. OnOk c.push_limited.result (c.push_limited.new.rows ≡ c.args.rows.now ++ t))
-    (sym (shown-one row (sym (has_number-row_from m.balances m.resources c.args.sums)
+    (ap (λ (r : Row). r ∷ []) c.in_ok-row.ensures
+    ∙ sym (shown-one row (sym (has_number-row_from m.balances m.resources c.args.sums)
     ∙ ap has_number (sym c.as_slice.ensures) ∙ sym c.if-not-has_number.ensures)))
     c.push_limited.ensures.rows
 

@@ -1,0 +1,11 @@
+-- The ends so far are added.
+use Rattle.std.proofs.Common.{ℕ, take}
+use Rattle.row_sums.specs.Sums.{booked}
+use Rattle.table_sums.specs.Additions.{Adds}
+use Rattle.virt_tables.specs.Both.{both_width, ends_at}
+use Rattle.virt_tables.proofs.both_sums.add_ends.Given as goal
+
+abbrev pub invariant-loop-unit : goal.invariant-loop-unit
+invariant-loop-unit l = (number : ℕ) → Adds (both_width l.moves.resources)
+    (ends_at l.moves.resources l.moves.ask.now.group (take l.unit-index l.ends)
+    (booked number l.rec)) l.initial.sums l.sums
