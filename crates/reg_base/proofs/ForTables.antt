@@ -25,7 +25,7 @@ use Rattle.reg_base.specs.Sums.{sum_over, in_order_once}
 use Rattle.reg_base.specs.Turnovers.{RowKey, unit_cmp, key_cmp, unit_of_date, unit_of, in_range}
 use Rattle.reg_base.specs.Turnovers.{before_unit, both_keys, turnovers_of}
 use Rattle.reg_base.specs.Turnovers.{balance_and_turnovers_of}
-use Rattle.reg_base.specs.TableLaws.{is_before, are_periods, SplitsRange}
+use Rattle.reg_base.specs.TableLaws.{is_before_unit, are_periods, SplitsRange}
 use Rattle.reg_base.proofs.BalanceLemmas as balances
 use Rattle.reg_base.proofs.KeyLemmas as keys
 use Rattle.reg_base.proofs.OnceLemmas as onces
@@ -175,7 +175,7 @@ total-permutation = tables.total-permutation
 
 -- the records before a unit are those that pass a test
 pub before_unit-filter : (range : Range) (unit : TableUnit) (bs : List Booked)
-    → before_unit range unit bs ≡ filter (is_before range unit) bs
+    → before_unit range unit bs ≡ filter (is_before_unit range unit) bs
 before_unit-filter = openings.before_unit-filter
 
 -- the unit of a date of the range, and that of a record of the range, splits the range

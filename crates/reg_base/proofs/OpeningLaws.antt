@@ -32,7 +32,7 @@ use Rattle.reg_base.specs.TableLaws.{Opens}
 use Rattle.reg_base.proofs.KeyLemmas.{key_cmp_total, key_cmp_exact}
 use Rattle.reg_base.proofs.OnceLemmas.{put_once-all}
 use Rattle.reg_base.proofs.SumLemmas.{sum_over-same}
-use Rattle.reg_base.specs.TableLaws.{is_in, are_periods, SplitsRange}
+use Rattle.reg_base.specs.TableLaws.{is_in_range, are_periods, SplitsRange}
 use Rattle.reg_base.proofs.OpeningLemmas.{SplitsRange-date, SplitsRange-record}
 use Rattle.reg_base.proofs.OpeningLemmas.{total-before}
 
@@ -89,10 +89,10 @@ KeySplits range key = SplitsRange range key.unit
 records-split : (group : Option (List ℕ)) (range : Range) (bs : List Booked)
     → AllByRecursion (KeySplits range) (map (key_of group range.by) (in_range range bs))
 records-split group range [] = tt
-records-split group range (b ∷ bs) = at (records-split group range bs) (is_in range b) refl
+records-split group range (b ∷ bs) = at (records-split group range bs) (is_in_range range b) refl
   where
     at : AllByRecursion (KeySplits range) (map (key_of group range.by) (in_range range bs))
-        → (t : Bool) → is_in range b ≡ t
+        → (t : Bool) → is_in_range range b ≡ t
         → AllByRecursion (KeySplits range)
         (map (key_of group range.by) (cond t (b ∷ in_range range bs) (in_range range bs)))
     at ih true e =

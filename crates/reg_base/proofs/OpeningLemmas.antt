@@ -24,13 +24,13 @@ use Rattle.reg_base.specs.Balances.{contribution, total}
 use Rattle.reg_base.specs.Sums.{sum_over}
 use Rattle.reg_base.specs.Units.{unit_start, are_dates}
 use Rattle.reg_base.specs.Turnovers.{unit_cmp, unit_of_date, unit_of, in_range, before_unit}
-use Rattle.reg_base.specs.TableLaws.{is_before, is_in, are_periods, SplitsRange}
+use Rattle.reg_base.specs.TableLaws.{is_before_unit, is_in_range, are_periods, SplitsRange}
 use Rattle.reg_base.proofs.SumLemmas.{sum_over-passed, sum_over-plus, sum_over-same}
 use Rattle.reg_base.proofs.TableOrder.{total-sum_over}
 use Rattle.reg_base.proofs.UnitLaws.{unit_start-is, unit_start-le, unit_start-lt}
 
 pub before_unit-filter : (range : Range) (unit : TableUnit) (bs : List Booked)
-    → before_unit range unit bs ≡ filter (is_before range unit) bs
+    → before_unit range unit bs ≡ filter (is_before_unit range unit) bs
 before_unit-filter range Whole bs = refl
 before_unit-filter range (Start d) bs = refl
 before_unit-filter range (At p) bs = refl
@@ -83,7 +83,7 @@ module _ (range : Range) (date : ℕ) (first : range.from ≤ date) (last : date
   -- the unit of a date of the range, where units are dates
   start-is_lower : (by : Periodicity) → are_dates by ≡ true
       → nat_lt b.rec.period (max range.from (unit_start by date))
-      ≡ (nat_lt b.rec.period range.from || (is_in range b
+      ≡ (nat_lt b.rec.period range.from || (is_in_range range b
       && is_lt (nat_cmp (unit_start by b.rec.period) (unit_start by date))))
   start-is_lower by dates =
       let is = unit_start-is by date dates in
@@ -94,13 +94,13 @@ module _ (range : Range) (date : ℕ) (first : range.from ≤ date) (last : date
 -- the same for units of one periodicity
 abbrev is_lower_by : Periodicity → Range → TableUnit → Booked → Bool
 is_lower_by by range unit b =
-    nat_lt b.rec.period range.from || (is_in range b && is_lt (unit_cmp (unit_of by b) unit))
+    nat_lt b.rec.period range.from || (is_in_range range b && is_lt (unit_cmp (unit_of by b) unit))
 
 date_lower : (range : Range) (date : ℕ) → range.from ≤ date → date ≤ range.to → (b : Booked)
     (by : Periodicity) → are_periods by ≡ true
-    → is_before range (unit_of_date by date) b ≡ is_lower_by by range (unit_of_date by date) b
+    → is_before_unit range (unit_of_date by date) b ≡ is_lower_by by range (unit_of_date by date) b
 date_lower range date first last b Period periods =
-    nothing_lower (nat_lt b.rec.period range.from) (is_in range b)
+    nothing_lower (nat_lt b.rec.period range.from) (is_in_range range b)
 date_lower range date first last b Record periods = cc
 date_lower range date first last b Recorder periods = cc
 date_lower range date first last b Day periods = start-is_lower range date first last b Day refl
@@ -116,7 +116,7 @@ date_lower range date first last b Year periods = start-is_lower range date firs
 
 record_lower : (range : Range) (c : Booked) → range.from ≤ c.rec.period → c.rec.period ≤ range.to
     → (b : Booked) (by : Periodicity)
-    → is_before range (unit_of by c) b ≡ is_lower_by by range (unit_of by c) b
+    → is_before_unit range (unit_of by c) b ≡ is_lower_by by range (unit_of by c) b
 record_lower range c first last b Period = date_lower range c.rec.period first last b Period refl
 record_lower range c first last b Record =
     let date = nat_cmp b.rec.period c.rec.period in
@@ -124,7 +124,7 @@ record_lower range c first last b Record =
     let line = nat_cmp b.rec.line c.rec.line in
     ap is_lt (then-then date doc line)
     ∙ point_lower b.rec.period range.from range.to c.rec.period (ordering_then doc line) first last
-    ∙ ap (λ (o : Ordering). nat_lt b.rec.period range.from || (is_in range b && is_lt o))
+    ∙ ap (λ (o : Ordering). nat_lt b.rec.period range.from || (is_in_range range b && is_lt o))
     (sym (then-then date doc line))
 record_lower range c first last b Recorder =
     point_lower b.rec.period range.from range.to c.rec.period (nat_cmp b.recorder c.recorder) first
@@ -158,7 +158,7 @@ apart false true l x never = omega (arith, ints)
 apart false false l x never = refl
 
 not_in : (range : Range) (b : Booked) → nat_lt b.rec.period range.from ≡ true
-    → is_in range b ≡ false
+    → is_in_range range b ≡ false
 not_in range b before = grind (arith, nat_tests)
 
 -- the sum over the records before a unit is that before the range, and that of the lower units
@@ -172,20 +172,20 @@ sum_over-before range unit splits f bs =
     let early = λ (b : Booked). cond (nat_lt b.rec.period range.from) (f b) (pos 0) in
     let lower = λ (b : Booked).
     cond (is_lt (unit_cmp (unit_of range.by b) unit)) (f b) (pos 0) in
-    let inside_it = λ (b : Booked). cond (is_in range b) (lower b) (pos 0) in
+    let inside_it = λ (b : Booked). cond (is_in_range range b) (lower b) (pos 0) in
     ap (sum_over f) (before_unit-filter range unit bs)
-    ∙ sum_over-passed f (is_before range unit) bs
-    ∙ sum_over-same (λ b. cond (is_before range unit b) (f b) (pos 0))
+    ∙ sum_over-passed f (is_before_unit range unit) bs
+    ∙ sum_over-same (λ b. cond (is_before_unit range unit b) (f b) (pos 0))
     (λ b. early b +ℤ inside_it b)
     (λ b. ap (λ t. cond t (f b) (pos 0)) (splits b)
-    ∙ apart (nat_lt b.rec.period range.from) (is_in range b)
+    ∙ apart (nat_lt b.rec.period range.from) (is_in_range range b)
     (is_lt (unit_cmp (unit_of range.by b) unit)) (f b) (not_in range b))
     bs
     ∙ sum_over-plus early inside_it bs
     ∙ ap (λ t. t +ℤ sum_over inside_it bs)
     (sym (sum_over-passed f (λ b. inside (BeforeDate range.from) (point_of b)) bs))
     ∙ ap (λ t. sum_over f (records_within (BeforeDate range.from) bs) +ℤ t)
-    (sym (sum_over-passed lower (is_in range) bs))
+    (sym (sum_over-passed lower (is_in_range range) bs))
 
 -- the opening of a group
 pub total-before : (range : Range) (unit : TableUnit) → SplitsRange range unit

@@ -24,7 +24,8 @@ use Rattle.reg_base.specs.Balances.{group_of}
 use Rattle.reg_base.specs.Sums.{sum_over, in_order_once, has_number}
 use Rattle.reg_base.specs.Turnovers.{RowKey, key_cmp, key_of, in_range, receipt_at, expense_at}
 use Rattle.reg_base.specs.Turnovers.{sums_where, is_of, turnover_row, has_movement, turnover_rows}
-use Rattle.reg_base.specs.TableLaws.{number_in, is_of_group, sum_in, first_in, AddsUp}
+use Rattle.reg_base.specs.TableLaws.{column_number, is_of_group, column_sum, first_number}
+use Rattle.reg_base.specs.TableLaws.{SumsToWhole}
 use Rattle.reg_base.proofs.OrderLemmas.{values_cmp_total, values_cmp_exact}
 use Rattle.reg_base.proofs.KeyLemmas.{key_cmp_total, key_cmp_exact}
 use Rattle.reg_base.proofs.SumLemmas.{sum_over-map, sum_over-filter, sum_over-same}
@@ -95,7 +96,7 @@ module _ (column : Row → List ℤ) (amount : ℕ → Rec → ℤ) (counted : B
 
   -- what a row adds
   share : Row → ℤ
-  share row = cond (is_of_group group row) (number_in column j row) (pos 0)
+  share row = cond (is_of_group group row) (column_number column j row) (pos 0)
 
   share-quiet : (row : Row) → has_movement row ≡ false → share row ≡ pos 0
   unfolding share
@@ -250,8 +251,8 @@ module _ (column : Row → List ℤ) (amount : ℕ → Rec → ℤ) (counts : Bo
   -- the rows of any units sum to those of any other
   rows-agree : (balances : Bool) (resources : ℕ) (by : Option (List ℕ)) (records : List Booked)
       (group : List Value) (j : ℕ) (p q : Periodicity)
-      → sum_in column j group (turnover_rows balances resources by p records)
-      ≡ sum_in column j group (turnover_rows balances resources by q records)
+      → column_sum column j group (turnover_rows balances resources by p records)
+      ≡ column_sum column j group (turnover_rows balances resources by q records)
   unfolding share
   rows-agree balances resources by records group j p q =
       sum-part column amount (counts balances) balances resources by records
@@ -262,24 +263,24 @@ module _ (column : Row → List ℤ) (amount : ℕ → Rec → ℤ) (counts : Bo
   -- over the whole range the sum is the first row's number
   rows-first : (balances : Bool) (resources : ℕ) (by : Option (List ℕ)) (records : List Booked)
       (group : List Value) (j : ℕ)
-      → sum_in column j group (turnover_rows balances resources by Period records)
-      ≡ first_in column j group (turnover_rows balances resources by Period records)
+      → column_sum column j group (turnover_rows balances resources by Period records)
+      ≡ first_number column j group (turnover_rows balances resources by Period records)
   unfolding turnover_rows counted_row
   rows-first balances resources by records group j =
       let row = λ (key : RowKey). turnover_row balances resources by Period records key in
       let groups = in_order_once values_cmp (map (group_of by) records) in
       subst
-      (λ (keys : List RowKey). sum_in column j group (filter has_movement (map row keys))
-      ≡ first_in column j group (filter has_movement (map row keys)))
+      (λ (keys : List RowKey). column_sum column j group (filter has_movement (map row keys))
+      ≡ first_number column j group (filter has_movement (map row keys)))
       (sym (keys-whole by records))
       (subst
-      (λ (rows : List Row). sum_in column j group (filter has_movement rows)
-      ≡ first_in column j group (filter has_movement rows))
+      (λ (rows : List Row). column_sum column j group (filter has_movement rows)
+      ≡ first_number column j group (filter has_movement rows))
       (sym (map-map row whole groups))
-      (sum-first (λ g. row (whole g)) (λ g. refl) has_movement (number_in column j) group groups
+      (sum-first (λ g. row (whole g)) (λ g. refl) has_movement (column_number column j) group groups
       (in_order_once-rising values_cmp_total values_cmp_exact (map (group_of by) records))))
 
-  adds_up : AddsUp column
+  adds_up : SumsToWhole column
   adds_up balances resources records asked by range group j =
       let chosen = in_range range (chosen_records asked records) in
       rows-agree balances resources by chosen group j range.by Period
@@ -295,17 +296,17 @@ quiet_parts row none =
     let first = or_parts (has_number row.receipt) (has_number row.expense) both.0 in
     (first.0, (first.1, both.1))
 
-pub receipts_add_up : AddsUp (λ row. row.receipt)
+pub receipts_add_up : SumsToWhole (λ row. row.receipt)
 receipts_add_up =
     adds_up (λ row. row.receipt) receipt_at (λ b. b)
     (λ balances resources by records p key. refl) (λ row none. (quiet_parts row none).0)
 
-pub expenses_add_up : AddsUp (λ row. row.expense)
+pub expenses_add_up : SumsToWhole (λ row. row.expense)
 expenses_add_up =
     adds_up (λ row. row.expense) expense_at (λ b. b)
     (λ balances resources by records p key. refl) (λ row none. (quiet_parts row none).1.0)
 
-pub turnovers_add_up : AddsUp (λ row. row.turnover)
+pub turnovers_add_up : SumsToWhole (λ row. row.turnover)
 turnovers_add_up =
     adds_up (λ row. row.turnover) amount_at (λ b. true)
     (λ balances resources by records p key. refl) (λ row none. (quiet_parts row none).1.1)

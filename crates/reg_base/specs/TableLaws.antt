@@ -29,22 +29,22 @@ Closes row = row.closing ≡ plus_each row.opening row.turnover
 -- ---- openings
 
 -- whether a record is before a unit, as `before_unit` takes it
-abbrev pub is_before : Range → TableUnit → Booked → Bool
-is_before range Whole b = inside (BeforeDate range.from) (point_of b)
-is_before range (Start d) b = inside (BeforeDate (max range.from d)) (point_of b)
-is_before range (At p) b = inside (BeforePoint p) (point_of b)
-is_before range (Line p l) b =
+abbrev pub is_before_unit : Range → TableUnit → Booked → Bool
+is_before_unit range Whole b = inside (BeforeDate range.from) (point_of b)
+is_before_unit range (Start d) b = inside (BeforeDate (max range.from d)) (point_of b)
+is_before_unit range (At p) b = inside (BeforePoint p) (point_of b)
+is_before_unit range (Line p l) b =
     is_lt (ordering_then (point_cmp (point_of b) p) (nat_cmp b.rec.line l))
 
 -- whether the date of a record is in the range
-abbrev pub is_in : Range → Booked → Bool
-is_in range b = nat_le range.from b.rec.period && nat_le b.rec.period range.to
+abbrev pub is_in_range : Range → Booked → Bool
+is_in_range range b = nat_le range.from b.rec.period && nat_le b.rec.period range.to
 
 -- a record lies before the range, or in it in a lower unit
-abbrev pub is_lower : Range → TableUnit → Booked → Bool
-is_lower range unit b =
+abbrev pub is_in_lower_unit : Range → TableUnit → Booked → Bool
+is_in_lower_unit range unit b =
     nat_lt b.rec.period range.from
-    || (is_in range b && is_lt (unit_cmp (unit_of range.by b) unit))
+    || (is_in_range range b && is_lt (unit_cmp (unit_of range.by b) unit))
 
 -- whether units are the whole range or dates
 abbrev pub are_periods : Periodicity → Bool
@@ -61,7 +61,7 @@ are_periods Year = true
 
 -- a unit of which a record is before exactly where it lies before the range or in a lower unit
 abbrev pub SplitsRange : Range → TableUnit → Type 0
-SplitsRange range unit = (b : Booked) → is_before range unit b ≡ is_lower range unit b
+SplitsRange range unit = (b : Booked) → is_before_unit range unit b ≡ is_in_lower_unit range unit b
 
 -- what the records of the range that are of a row's group and of a lower unit add
 abbrev pub moved_before : ℕ → Option (List ℕ) → Range → List Booked → Row → List ℤ
@@ -80,29 +80,30 @@ Opens resources group range records row =
 -- ---- sums over the rows of a group
 
 -- the number of a row at a resource, in one of its columns
-abbrev pub number_in : (Row → List ℤ) → ℕ → Row → ℤ
-number_in column resource row = unwrap_or (slice_get (column row) resource) (pos 0)
+abbrev pub column_number : (Row → List ℤ) → ℕ → Row → ℤ
+column_number column resource row = unwrap_or (slice_get (column row) resource) (pos 0)
 
 -- whether a row is of a group
 abbrev pub is_of_group : List Value → Row → Bool
 is_of_group group row = is_eq (values_cmp row.group group)
 
 -- the sum of a column over the rows of a group
-abbrev pub sum_in : (Row → List ℤ) → ℕ → List Value → List Row → ℤ
-sum_in column resource group rows =
-    sum_over (λ row. if is_of_group group row then number_in column resource row else pos 0) rows
+abbrev pub column_sum : (Row → List ℤ) → ℕ → List Value → List Row → ℤ
+column_sum column resource group rows =
+    sum_over
+    (λ row. if is_of_group group row then column_number column resource row else pos 0) rows
 
 -- the number of the first row of a group, or nothing where there is none
-abbrev pub first_in : (Row → List ℤ) → ℕ → List Value → List Row → ℤ
-first_in column resource group rows =
-    unwrap_or (option_map (number_in column resource) (find (is_of_group group) rows)) (pos 0)
+abbrev pub first_number : (Row → List ℤ) → ℕ → List Value → List Row → ℤ
+first_number column resource group rows =
+    unwrap_or (option_map (column_number column resource) (find (is_of_group group) rows)) (pos 0)
 
 -- whatever the units, the rows of a group sum to the group's one row over the whole range, or to
 -- nothing where it has none
-abbrev pub AddsUp : (Row → List ℤ) → Type 0
-AddsUp column =
+abbrev pub SumsToWhole : (Row → List ℤ) → Type 0
+SumsToWhole column =
     (balances : Bool) (resources : ℕ) (records : List Booked) (asked : Filter)
     (by : Option (List ℕ)) (range : Range) (group : List Value) (resource : ℕ)
-    → sum_in column resource group (turnovers_of balances resources records asked by range)
-    ≡ first_in column resource group
+    → column_sum column resource group (turnovers_of balances resources records asked by range)
+    ≡ first_number column resource group
     (turnovers_of balances resources records asked by (record range { by = Period }))

@@ -13,7 +13,7 @@ ghost use Rattle.reg_base.specs.Records.{Booked, chosen_records};
 ghost use Rattle.reg_base.specs.BookedEntries.{entered_by, entries_of};
 ghost use Rattle.reg_base.specs.Turnovers.{RowKey, unit_cmp, key_cmp};
 ghost use Rattle.reg_base.specs.Turnovers.{turnovers_of, balance_and_turnovers_of};
-ghost use Rattle.reg_base.specs.TableLaws.{Opens, Closes, AddsUp};
+ghost use Rattle.reg_base.specs.TableLaws.{Opens, Closes, SumsToWhole};
 
 use crate::tables::Unit;
 
@@ -47,9 +47,9 @@ pub fn rows_open_and_close()
 /// A law: the turnovers of a group over the units of a range sum to those of its row over the
 /// whole range, in each column.
 pub fn turnovers_add_up()
-    ensures receipts { AddsUp (λ row. row.receipt) }
-    ensures expenses { AddsUp (λ row. row.expense) }
-    ensures turnovers { AddsUp (λ row. row.turnover) }
+    ensures receipts { SumsToWhole (λ row. row.receipt) }
+    ensures expenses { SumsToWhole (λ row. row.expense) }
+    ensures turnovers { SumsToWhole (λ row. row.turnover) }
 {}
 
 /// A law: the order that units derive is that of units, and it and the order of rows are total and

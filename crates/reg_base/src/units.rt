@@ -22,6 +22,7 @@ pub fn unit_start(by: Periodicity, date: Date) -> Date
 pub fn next_unit(by: Periodicity, date: Date) -> Option<Date>
     ensures { result ≡ next_unit by date }
 {
+    // A year of days at the most is looked through.
     for day in date.seconds() / 86_400 + 1..CENTURY_DAYS {
         if starts_unit(by, day) {
             return Some(midnight(day));
