@@ -167,7 +167,8 @@ module _ (chart : Chart) (asked : Option (List ℕ)) (entries : List BookedEntry
           ap (λ t. pair_row entries p ∷ t) ih
           ∙ ap (λ b. cond b (pair_row entries p ∷ rows_of ps) (rows_of ps)) (sym e)
       at true e false ih = ih
-      at false e true ih = ih ∙ ap (λ b. cond b (pair_row entries p ∷ rows_of ps) (rows_of ps)) (sym e)
+      at false e true ih =
+          ih ∙ ap (λ b. cond b (pair_row entries p ∷ rows_of ps) (rows_of ps)) (sym e)
       at false e false ih = ih
 
   -- the rows of the pairs of the table

@@ -1,9 +1,9 @@
 -- Sums of sides by account and extras: their order, one side more, and sums of all entries.
-use Rattle.std.proofs.Common.{◌≡◌, ℕ, ◌+◌, ◌*◌, ◌^◌, ◌≤◌, ℤ, pos, ◌+ℤ◌, Bool, true, false, cond}
-use Rattle.std.proofs.Common.{Option, Some, None, List, [], ◌∷◌, ◌++◌, map, refl, ap, ◌∙◌, sym}
+use Rattle.std.proofs.Common.{◌≡◌, ℕ, ◌+◌, ◌^◌, ◌≤◌, ℤ, pos, ◌+ℤ◌, true, false, cond}
+use Rattle.std.proofs.Common.{List, [], ◌∷◌, ◌++◌, map, refl, ap, ◌∙◌, sym}
 use Rattle.std.proofs.Common.{subst, arith, append_assoc}
 use Rattle.std.specs.Prelude.{unwrap_or, IsPermutation}
-use Rattle.std.specs.List.{filter, flat_map}
+use Rattle.std.specs.List.{flat_map}
 use Rattle.std.specs.List.Sorted.{IsStrictlySortedBy}
 use Rattle.std.specs.Map.{lookup, keys_of}
 use Rattle.std.specs.BTreeMap.{insert_entry}
@@ -18,18 +18,19 @@ use Rattle.std.proofs.lemmas.List.{append-nil}
 use Rattle.std.proofs.lemmas.List.Sorted.{IsPermutation-map, IsPermutation-append_comm}
 use Rattle.std.proofs.lemmas.Map.Lookups.{CmpEqualImpliesEq, exact_bytes}
 use Rattle.reg_base.specs.BookedEntries.{BookedEntry}
-use Rattle.reg_base.specs.Sums.{sum_over, in_order_once}
 use Rattle.reg_base.proofs.ForAbove.{sum_over-permutation, in_order_once-permutation}
 use Rattle.ledger_reg.specs.declared.sides.SideKey.{SideKey}
 use Rattle.ledger_reg.specs.declared.sides.Amounts.{Amounts}
 use Rattle.ledger_reg.specs.declared.sides.SideSums.{SideSums}
 use Rattle.ledger_reg.specs.contracts.sides.SideKeyOrd.TheImpl.{ghosts}
-use Rattle.ledger_reg.specs.Sides.{SidePlace, SideAmounts, place_cmp, place_in, sides_in, no_amounts}
+use Rattle.ledger_reg.specs.Sides.{SidePlace, SideAmounts, place_cmp, place_in, sides_in}
+use Rattle.ledger_reg.specs.Sides.{no_amounts}
 use Rattle.ledger_reg.specs.Sides.{plus_side, place_sums, side_sums, sides_of, amounts_at}
 use Rattle.ledger_reg.specs.Sides.{amounts_size, sides_size, RaisesSide, AddsSide, SumsSides}
 use Rattle.ledger_reg.specs.Sizes.{size_of, total_size}
 use Rattle.ledger_reg.specs.Walks.{Adds}
-use Rattle.ledger_reg.proofs.MapLemmas.{added-totals, lookup-seen, found-size, insert-size, size-seen}
+use Rattle.ledger_reg.proofs.MapLemmas.{added-totals, lookup-seen, found-size, insert-size}
+use Rattle.ledger_reg.proofs.MapLemmas.{size-seen}
 use Rattle.ledger_reg.proofs.SizeLemmas.{size-plus}
 
 -- ---- the order of places
@@ -113,7 +114,8 @@ side_sums-permutation xs ys same =
     }
 
 pub side_sums-more : (s : SideAmounts) (ds : List SideAmounts)
-    → insert_entry place_cmp (side_sums ds) s.place (plus_side s (amounts_at s.place (side_sums ds)))
+    → insert_entry place_cmp (side_sums ds) s.place
+    (plus_side s (amounts_at s.place (side_sums ds)))
     ≡ side_sums (ds ++ s ∷ [])
 side_sums-more s ds =
     added-totals place_cmp_total place_cmp_exact (λ (x : SideAmounts). x.place) no_amounts
