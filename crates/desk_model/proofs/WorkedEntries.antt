@@ -26,7 +26,8 @@ use Rattle.desk_model.specs.Entries.{entry_at}
 use Rattle.desk_model.specs.Fields.{cells_of}
 use Rattle.desk_model.specs.Writes.{kind_of_request, content_of, plan_content, plan_write}
 use Rattle.desk_model.specs.Limits.{limits_of}
-use Rattle.desk_model.specs.Serial.{work_effect, plan_effect, change_effect, document_answer, document_effect}
+use Rattle.desk_model.specs.Serial.{work_effect, plan_effect, change_effect}
+use Rattle.desk_model.specs.Serial.{document_answer, document_effect}
 use Rattle.desk_model.specs.Serial.{effect_of}
 use Rattle.desk_model.specs.Desk.{step}
 use Rattle.desk_model.proofs.RowBooks.{empty, morning, tenth, of_register, of_ledger, side, set_of}

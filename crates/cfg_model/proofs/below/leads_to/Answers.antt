@@ -10,7 +10,8 @@ steps-preserved c =
     let other = sym c.eq.ensures ∙ c.if-eq.false in
     let step = leads_to-next _ c.steps.counter accounts code c.in-Some.above c.steps-test.true other
     in
-    ap (leads_to (length accounts - (c.steps.counter + 1)) accounts code) c.parent_of-next-in-steps.ensures
+    ap (leads_to (length accounts - (c.steps.counter + 1)) accounts code)
+    c.parent_of-next-in-steps.ensures
     ∙ sym step
     ∙ ap (leads_to (length accounts - c.steps.counter) accounts code) (sym c.in-Some.is)
     ∙ c.steps.invariant
