@@ -11,4 +11,9 @@ pub mod PlaceLemmas
 pub mod TomlOrder
 pub mod TomlValues
 pub mod ConfigLemmas
+mod BalanceLemmas
+pub mod LeafLemmas
+mod LedgerLemmas
+pub mod SumLemmas
+mod WorkedAccounts
 mod WorkedRows

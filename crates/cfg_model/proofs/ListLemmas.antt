@@ -1,16 +1,21 @@
 -- What holds of each element of a list that was read, and how many there are.
-use Rattle.std.proofs.Common.{◌≡◌, ℕ, ◌≤◌, nat_le, true, Bool, List, [], ◌∷◌, length, Option, Some}
-use Rattle.std.proofs.Common.{None, Result, Ok, sym, ap, subst, arith}
-use Rattle.std.specs.List.{AllByRecursion, list_all}
+use Rattle.std.proofs.Common.{◌≡◌, ℕ, suc, ◌≤◌, nat_le, true, false, Bool, ◌&&◌, ◌||◌, cond, List}
+use Rattle.std.proofs.Common.{[], ◌∷◌, ◌++◌, length, map, Option}
+use Rattle.std.proofs.Common.{Some, None, option_map, Result, Ok}
+use Rattle.std.proofs.Common.{refl, sym, ap, subst, arith}
+use Rattle.std.specs.List.{AllByRecursion, filter, list_all, list_any}
+use Rattle.std.proofs.lemmas.List.Folds.{list_any-append}
 use Rattle.std.proofs.lemmas.Bool.{and_parts}
 use Rattle.std.proofs.lemmas.Bool.Decides.{nat_tests}
 use Rattle.std.proofs.lemmas.Option.{same_Some}
 use Rattle.toml.specs.Data.{Data, Items, no_items, item, Members, no_members, member, get_member}
 use Rattle.toml.specs.Data.{as_array, as_str, as_table}
-use Rattle.reg_base.specs.Results.{◌>>=◌, unless, some_or}
+use Rattle.reg_base.specs.Results.{◌>>=◌, unless, some_or, none_or}
 use Rattle.cfg_model.specs.declared.fault.CfgFault.{CfgFault}
-use Rattle.cfg_model.specs.declared.fault.CfgFault.TheVariants.{Field, Count, Unknown}
-use Rattle.cfg_model.specs.Walk.{member_count, at_most, distinct, each_entry, group_entries}
+use Rattle.cfg_model.specs.declared.fault.CfgFault.TheVariants.{Field, Count, Twice, Unknown}
+use Rattle.cfg_model.specs.Words.{is_one_of}
+use Rattle.cfg_model.specs.Walk.{member_count, at_most, is_second, first_second, distinct}
+use Rattle.cfg_model.specs.Walk.{each_entry, group_entries}
 use Rattle.cfg_model.specs.Walk.{read_group, of_shape, toml_each, toml_text, toml_texts, all_known}
 use Rattle.cfg_model.proofs.Steps.{bind-Ok, same_Ok, unless-Ok, and_then-Some, map-Some}
 
@@ -18,6 +23,65 @@ use Rattle.cfg_model.proofs.Steps.{bind-Ok, same_Ok, unless-Ok, and_then-Some, m
 pub distinct-Ok : {X : Type 0} (label : X → List ℕ) (sole : X → Bool) (xs ys : List X)
     → distinct label sole xs ≡ Ok ys → xs ≡ ys
 distinct-Ok label sole xs ys e = let (u, first, second) = bind-Ok _ (λ _. Ok xs) ys e in cc
+
+or-false : (a b : Bool) → (a || b) ≡ false → b ≡ false
+or-false true true e = e
+or-false true false e = refl
+or-false false b e = e
+
+-- no fault means that nothing was found
+none_found : {X : Type 0} (fault : X → CfgFault) (found : Option X) (u : Unit {0})
+    → none_or (option_map fault found) ≡ Ok u → found ≡ None
+none_found fault None u e = refl
+none_found fault (Some x) u e = absurd (cc)
+
+-- where no second stands behind those before, one of the sole sort does at the most, and none
+-- where there is one before
+sole-few : {X : Type 0} (label : X → List ℕ) (sole : X → Bool) (xs seen : List X)
+    → first_second label sole seen xs ≡ None
+    → length (filter sole xs) ≤ cond (list_any sole seen) 0 1
+sole-few label sole [] seen e = omega arith
+sole-few {X} label sole (x ∷ xs) seen e =
+    at (is_second label sole seen x) refl (λ h. sole-few label sole xs (seen ++ x ∷ []) h) e
+  where
+    -- one of the sort more, where there was none before
+    counted : (t n : Bool) → t && n ≡ false → (rest : ℕ)
+        → rest ≤ cond (n || (t || false)) 0 1 → cond t (suc rest) rest ≤ cond n 0 1
+    counted true true h rest few = absurd (cc)
+    counted true false h rest few = omega arith
+    counted false true h rest few = few
+    counted false false h rest few = few
+
+    length-cond : (t : Bool) (y : X) (ys : List X)
+        → length (cond t (y ∷ ys) ys) ≡ cond t (suc (length ys)) (length ys)
+    length-cond true y ys = refl
+    length-cond false y ys = refl
+
+    at : (s : Bool) → is_second label sole seen x ≡ s
+        → (first_second label sole (seen ++ x ∷ []) xs ≡ None
+        → length (filter sole xs) ≤ cond (list_any sole (seen ++ x ∷ [])) 0 1)
+        → cond s (Some x) (first_second label sole (seen ++ x ∷ []) xs) ≡ None
+        → length (cond (sole x) (x ∷ filter sole xs) (filter sole xs))
+        ≤ cond (list_any sole seen) 0 1
+    at true is later h = absurd (cc)
+    at false is later h =
+        let few : length (filter sole xs) ≤ cond (list_any sole seen || (sole x || false)) 0 1 =
+        subst (λ (b : Bool). length (filter sole xs) ≤ cond b 0 1)
+        (list_any-append sole seen (x ∷ [])) (later h) in
+        subst (λ (n : ℕ). n ≤ cond (list_any sole seen) 0 1)
+        (sym (length-cond (sole x) x (filter sole xs)))
+        (counted (sole x) (list_any sole seen)
+        (or-false (is_one_of (map label seen) (label x)) (sole x && list_any sole seen) is)
+        (length (filter sole xs)) few)
+
+-- of the sort that stands once at the most, a list in which none stands twice has one at the most
+pub distinct-one : {X : Type 0} (label : X → List ℕ) (sole : X → Bool) (xs ys : List X)
+    → distinct label sole xs ≡ Ok ys → length (filter sole ys) ≤ 1
+distinct-one label sole xs ys e =
+    let (u, first, second) = bind-Ok _ (λ _. Ok xs) ys e in
+    subst (λ (zs : List _). length (filter sole zs) ≤ 1) (same_Ok _ _ second)
+    (sole-few label sole xs [] (none_found (λ x. Twice (label x)) (first_second label sole [] xs) u
+    first))
 
 -- so many were at most so many
 pub at_most-Ok : (limit : ℕ) (path : List ℕ) (number : ℕ) (u : Unit {0})

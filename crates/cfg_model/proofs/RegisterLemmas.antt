@@ -2,7 +2,7 @@
 use Rattle.std.proofs.Common.{◌≡◌, ℕ, ℤ, pos, negsuc, ◌-◌, ◌≤◌, ◌&&◌, nat_le, true, false, Bool}
 use Rattle.std.proofs.Common.{cond, List, [], ◌∷◌, length, Option, Some, None, option_and_then}
 use Rattle.std.proofs.Common.{option_map, Ok, codes, subst, arith, IfSome}
-use Rattle.std.specs.List.{AllByRecursion}
+use Rattle.std.specs.List.{AllByRecursion, filter}
 use Rattle.std.specs.Str.{bytes_eq}
 use Rattle.std.proofs.lemmas.Bool.{and_parts}
 use Rattle.std.proofs.lemmas.Bool.Decides.{nat_tests}
@@ -19,6 +19,7 @@ use Rattle.cfg_model.specs.declared.fault.CfgFault.TheVariants.{Field}
 use Rattle.cfg_model.specs.Elements.{at_colon, toml_name, toml_scale, toml_resource, toml_dimension}
 use Rattle.cfg_model.specs.Elements.{toml_field, toml_field_scale}
 use Rattle.cfg_model.specs.Limits.{dimension_limit, resource_limit, field_limit, scale_limit}
+use Rattle.cfg_model.specs.Limits.{lot_limit}
 use Rattle.cfg_model.specs.Limits.{IsRegisterWithinLimits, IsKindWithinLimits}
 use Rattle.cfg_model.specs.Words.{key_path, register_keys, document_keys}
 use Rattle.cfg_model.specs.Walk.{at_most, entry_keys, of_shape, toml_texts}
@@ -28,7 +29,7 @@ use Rattle.cfg_model.specs.Kinds.{read_kind, read_fields}
 use Rattle.cfg_model.specs.Ledgers.{read_scale, scale_number}
 use Rattle.cfg_model.proofs.Steps.{bind-Ok, same_Ok, unless-Ok, some_or-Ok, and_then-Some, map-Some}
 use Rattle.cfg_model.proofs.Steps.{cond-Some}
-use Rattle.cfg_model.proofs.ListLemmas.{at_most-Ok, distinct-Ok, toml_texts-all}
+use Rattle.cfg_model.proofs.ListLemmas.{at_most-Ok, distinct-Ok, distinct-one, toml_texts-all}
 
 digit-small : (digit scale : ℕ)
     → (nat_le 48 digit && nat_le digit 54) ≡ true → digit - 48 ≡ scale → scale ≤ scale_limit
@@ -96,6 +97,17 @@ read_dimensions-few name keys ds e =
     subst (λ (xs : List Dimension). length xs ≤ dimension_limit) same
     (at_most-Ok dimension_limit path (length found) u few)
 
+-- a register that is read has one dimension of lots at the most
+read_dimensions-one_lot : (name : List ℕ) (keys : Members) (ds : List Dimension)
+    → read_dimensions name keys ≡ Ok ds → length (filter (λ d. d.lot) ds) ≤ lot_limit
+unfolding read_dimensions
+read_dimensions-one_lot name keys ds e =
+    let path = key_path (codes "register") name (codes "dimensions") in
+    let held = of_shape (toml_texts toml_dimension) (codes "dimensions") keys in
+    let (found, shape, more) = bind-Ok (some_or held (Field path)) _ ds e in
+    let (u, few, last) = bind-Ok (at_most dimension_limit path (length found)) _ ds more in
+    distinct-one (λ (d : Dimension). d.name) (λ (d : Dimension). d.lot) found ds last
+
 -- what the limits ask of the resources of a register
 record HasResources (rs : List Resource) : Type 0 where
   some_resource : 1 ≤ length rs
@@ -136,6 +148,7 @@ read_register-within name d r e =
     let within = read_resources-within name keys rs are_resources in
     subst IsRegisterWithinLimits (same_Ok _ _ made) (record {
       few_dimensions = read_dimensions-few name keys ds are_dimensions;
+      one_lot = read_dimensions-one_lot name keys ds are_dimensions;
       some_resource = within.some_resource;
       few_resources = within.few_resources;
       small_scales = All-from_recursion _ rs within.small_scales;

@@ -14,4 +14,7 @@ pub mod Clerks
 pub mod Reading
 pub mod Resolving
 pub mod Entries
+pub mod AccountTables
+pub mod Asks
+pub mod LedgerLaws
 pub mod FaultTexts

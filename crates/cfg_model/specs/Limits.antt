@@ -1,5 +1,5 @@
 -- How many of each a configuration may have, and what an accepted one keeps to.
-use Rattle.std.specs.Prelude.{ℕ, ◌≤◌, length, All, IfSome}
+use Rattle.std.specs.Prelude.{ℕ, ◌≤◌, length, filter, All, IfSome}
 use Rattle.cfg_model.specs.declared.config.Config.{Config}
 use Rattle.cfg_model.specs.declared.register.Register.{Register}
 use Rattle.cfg_model.specs.declared.ledger.Chart.{Chart}
@@ -49,9 +49,14 @@ field_limit = 16
 abbrev pub scale_limit : ℕ
 scale_limit = 6
 
+-- dimensions of lots of a register
+abbrev pub lot_limit : ℕ
+lot_limit = 1
+
 -- a register has some resources, and no more of anything than its limit
 pub record IsRegisterWithinLimits (register : Register) : Type 0 where
   pub few_dimensions : length register.dimensions ≤ dimension_limit
+  pub one_lot : length (filter (λ d. d.lot) register.dimensions) ≤ lot_limit
   pub some_resource : 1 ≤ length register.resources
   pub few_resources : length register.resources ≤ resource_limit
   pub small_scales : All (λ r. r.scale ≤ scale_limit) register.resources

@@ -33,17 +33,11 @@ pub fn check_entry(
 }
 
 impl Chart {
-    fn account(&self, side: &Side) -> Option<&Account>
-        ensures { option_map (λ a. a.now) result ≡ at_code side.now.account self.now.accounts }
-    {
-        account_at(self.accounts.as_slice(), &side.account)
-    }
-
     fn has_account_of(&self, side: &Option<Side>) -> bool
         ensures { result ≡ of_side (has_account self.now) side.now }
     {
         match side {
-            Some(side) => self.account(side).is_some(),
+            Some(side) => self.account(&side.account).is_some(),
             None => true,
         }
     }
@@ -78,7 +72,7 @@ impl Chart {
     fn has_extras(&self, side: &Side) -> bool
         ensures { result ≡ has_extras self.now side.now }
     {
-        match self.account(side) {
+        match self.account(&side.account) {
             Some(account) => side.extras.len() == account.extras.len(),
             None => false,
         }
@@ -99,7 +93,7 @@ impl Chart {
     fn is_off_balance(&self, side: &Side) -> bool
         ensures { result ≡ is_off_balance self.now side.now }
     {
-        match self.account(side) {
+        match self.account(&side.account) {
             Some(account) => account.off,
             None => false,
         }
@@ -116,9 +110,9 @@ fn has_parent(account: &Account, code: &Code) -> bool
     }
 }
 
-// The first account of a code.
+/// The first account of a code.
 #[tactic(auto, unfolding(crate::specs::Places::account_at))]
-fn account_at<'a>(accounts: &'a [Account], code: &Code) -> Option<&'a Account>
+pub(crate) fn account_at<'a>(accounts: &'a [Account], code: &Code) -> Option<&'a Account>
     ensures { option_map (λ a. a.now) result ≡ at_code code.now accounts.now }
 {
     'accounts: for account in accounts {

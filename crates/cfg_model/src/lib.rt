@@ -12,6 +12,7 @@
 
 mod account;
 mod accounts;
+mod below;
 mod clerk;
 mod config;
 mod element;
@@ -35,7 +36,7 @@ pub use config::{
 pub use entry::check_entry;
 pub use fault::CfgFault;
 pub use kind::{FIELD_LIMIT, Field, Kind};
-pub use laws::table_keys_ascend;
+pub use laws::{debits_equal_credits, each_row_balances, table_keys_ascend};
 pub use ledger::Chart;
 pub use reg_base::{EntryFault, Right};
 pub use register::{DIMENSION_LIMIT, Dimension, RESOURCE_LIMIT, Register, Resource};

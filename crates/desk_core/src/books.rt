@@ -66,6 +66,6 @@ impl<'a> Balances for Books<'a> {
         let register = usize::from(register);
         let resources = self.resources_at(register);
         let query = Query::new(register, resources, Some(group), filter, cut, Some(skip));
-        balance_rows(alloc, self.store.documents(), &query)
+        balance_rows(alloc, self.store.walk(), &query)
     }
 }

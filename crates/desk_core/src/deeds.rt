@@ -22,7 +22,7 @@ ghost use Rattle.desk_plans.specs.Bounds.{IsWithinBounds};
 ghost use Rattle.desk_core.specs.Outcomes.{Comes, IsPut, deed_at, made_effect, planned_effect};
 ghost use Rattle.desk_plans.specs.Sights.{sight_view, Suits};
 ghost use Rattle.desk_core.specs.SeenStates.{sight_at, drawn_for, IsSightOf};
-ghost use Rattle.desk_plans.specs.Tries.{Tries};
+ghost use Rattle.reg_base.specs.Tries.{Tries};
 
 use crate::books::Books;
 use crate::clerks::{clerk_of, is_allowed, is_clerk, right_of};
@@ -132,7 +132,8 @@ impl Desk {
     #[tactic(auto, unfolding(desk_model::specs::Serial::change_effect))]
     fn unpost_outcome(&self, alloc: Global, document: &StandingDocument) -> Result<Outcome, Memory>
         ensures { IfOk result
-            (Comes self.now.desk (or_stop (deed_at self.now.desk (RequestIs.Unpost document.now)))) }
+            (Comes self.now.desk
+            (or_stop (deed_at self.now.desk (RequestIs.Unpost document.now)))) }
     {
         let sight = self.sight(Some(document.doc), &None);
         let plan = plan_unpost(alloc, &sight);

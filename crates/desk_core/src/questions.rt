@@ -5,7 +5,7 @@ ghost use Rattle.desk_model.specs.Questions.{question_balance, question_doc};
 ghost use Rattle.desk_model.specs.Stops.{or_stop};
 ghost use Rattle.desk_model.specs.Serial.{document_answer, question_answer};
 ghost use Rattle.desk_core.specs.Outcomes.{Comes, IsAnswer, deed_at};
-ghost use Rattle.desk_plans.specs.Tries.{Tries};
+ghost use Rattle.reg_base.specs.Tries.{Tries};
 
 use crate::desk::Desk;
 use crate::outcome::{Outcome, refusal_outcome};
@@ -52,7 +52,7 @@ impl Desk {
         }
         let cut = balance.cut.unwrap_or(Cut::Now);
         let resources = register.resources.as_slice();
-        let rows = all_rows(alloc, self.store.documents(), place, resources.len(), &cut)?;
+        let rows = all_rows(alloc, self.store.walk(), place, resources.len(), &cut)?;
         let scales = scales_of(alloc, resources)?;
         Ok(Answer::Balance { rows, scales })
     }

@@ -103,10 +103,11 @@ change_effect-passes tests setting state number change effect accepted =
     test plan planned (Err refusal) is h = cc
 
     at : (planned : Result Plan Refusal) → change.plan sight ≡ planned →
-        (planned >>= λ plan. tests.limits sight plan (made_at setting state sight plan) >>= λ _. behind
-        setting state number sight plan) ≡ Ok effect → Passes tests setting state number change
-        effect
-    at (Ok plan) is h = test plan is (tests.limits sight plan (made_at setting state sight plan)) refl h
+        (planned >>= λ plan. tests.limits sight plan (made_at setting state sight plan)
+        >>= λ _. behind setting state number sight plan) ≡ Ok effect
+        → Passes tests setting state number change effect
+    at (Ok plan) is h =
+        test plan is (tests.limits sight plan (made_at setting state sight plan)) refl h
     at (Err refusal) is h = cc
 
 deed_effect-no_tests : (tests : Tests) (setting : Setting) (state : State) (number : ℕ)

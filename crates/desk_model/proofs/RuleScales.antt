@@ -1,6 +1,7 @@
 -- The refusals of rules, of controls and of posting have their scales.
 use Rattle.std.proofs.Common.{◌≡◌, ℕ, ℤ, pos, Bool, true, false, cond, Option, Some, None, IfSome}
-use Rattle.std.proofs.Common.{List, [], ◌∷◌, ◌++◌, ◌&&◌, Result, Ok, Err, slice_get, nat_le, sym, subst}
+use Rattle.std.proofs.Common.{List, [], ◌∷◌, ◌++◌, ◌&&◌, Result, Ok}
+use Rattle.std.proofs.Common.{Err, slice_get, nat_le, sym, subst}
 use Rattle.std.proofs.Common.{refl}
 use Rattle.std.specs.Prelude.{int_lt}
 use Rattle.reg_base.specs.declared.fault.PostFault.{PostFault}

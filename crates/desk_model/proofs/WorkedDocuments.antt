@@ -81,8 +81,8 @@ mark_of_written : replies (after empty (fill 1 [] ∷ []))
     ≡ Refused (WrongState Written) ∷ stands true 1 Marked ∷ stands true 1 Written
     ∷ Refused (WrongState Written) ∷ []
 unfolding step effect_of change_effect plan_effect work_effect limits_of right_word
-    plan_write plan_content kind_of_request content_of cells_of is_code parse_num digits_from decimals_from
-    last_digits_from units_of
+    plan_write plan_content kind_of_request content_of cells_of is_code parse_num digits_from
+    decimals_from last_digits_from units_of
     plan_mark plan_activity plan_sweep
 mark_of_written = refl
 
@@ -223,8 +223,8 @@ written_again : replies empty
     ≡ stands true 1 Written ∷ stands true 1 Written ∷ bad_field Kind ∷ bad_field Kind
     ∷ stands true 1 Marked ∷ Refused (WrongState Marked) ∷ []
 unfolding step effect_of change_effect plan_effect work_effect limits_of right_word
-    plan_write plan_content kind_of_request content_of cells_of is_code parse_num digits_from decimals_from
-    last_digits_from units_of
+    plan_write plan_content kind_of_request content_of cells_of is_code parse_num digits_from
+    decimals_from last_digits_from units_of
     plan_mark plan_activity plan_sweep one_nail
 written_again = refl
 
@@ -232,8 +232,8 @@ written_again = refl
 written_cells : map (λ d. d.doc.lines) (after empty (fill 1 (one_nail ∷ []) ∷ [])).serial.documents
     ≡ ((CodeCell (codes "nail") ∷ NumCell (pos 1_000) ∷ NumCell (pos 250) ∷ []) ∷ []) ∷ []
 unfolding step effect_of change_effect plan_effect work_effect limits_of right_word
-    plan_write plan_content kind_of_request content_of cells_of is_code parse_num digits_from decimals_from
-    last_digits_from units_of one_nail
+    plan_write plan_content kind_of_request content_of cells_of is_code parse_num digits_from
+    decimals_from last_digits_from units_of one_nail
 written_cells = refl
 
 -- of wrong fields the first is told: of the head, then of each line; in each those of the type in
@@ -253,6 +253,6 @@ wrong_fields : replies empty
     ∷ bad_field (Named (codes "amount")) ∷ bad_field (Named (codes "quantity"))
     ∷ bad_field (Named (codes "amount")) ∷ bad_field (Named (codes "price")) ∷ []
 unfolding step effect_of change_effect plan_effect work_effect limits_of right_word
-    plan_write plan_content kind_of_request content_of cells_of is_code parse_num digits_from decimals_from
-    last_digits_from units_of one_nail
+    plan_write plan_content kind_of_request content_of cells_of is_code parse_num digits_from
+    decimals_from last_digits_from units_of one_nail
 wrong_fields = refl

@@ -26,7 +26,8 @@ use Rattle.desk_model.specs.Entries.{entry_at}
 use Rattle.desk_model.specs.Fields.{cells_of}
 use Rattle.desk_model.specs.Writes.{kind_of_request, content_of, plan_content, plan_write}
 use Rattle.desk_model.specs.Limits.{limits_of}
-use Rattle.desk_model.specs.Serial.{work_effect, plan_effect, change_effect, document_answer, document_effect}
+use Rattle.desk_model.specs.Serial.{work_effect, plan_effect, change_effect}
+use Rattle.desk_model.specs.Serial.{document_answer, document_effect}
 use Rattle.desk_model.specs.Serial.{effect_of}
 use Rattle.desk_model.specs.Desk.{step}
 use Rattle.desk_model.proofs.RowBooks.{empty, morning, tenth, of_register, of_ledger, side, set_of}
@@ -132,7 +133,8 @@ refused_entries : replies empty
     ∷ into (codes "main") (nothing ∷ bought ∷ nothing ∷ bought ∷ []) ∷ [])
     ≡ Refused (Rule (Entry 0 2 ExtraCount) None) ∷ Refused (Rule (Entry 0 1 UnknownAccount) None)
     ∷ Refused (Rule (Entry 0 1 Sides) None) ∷ stands true 1 Posted ∷ []
-unfolding step effect_of change_effect plan_effect work_effect limits_of right_word into bought nothing
+unfolding step effect_of change_effect plan_effect work_effect limits_of right_word into bought
+    nothing
     plan_manual given_sets given_set space_of given_record record_in_register record_set is_code
     parse_num digits_from decimals_from last_digits_from units_of
     given_entry entry_in_ledger entry_at entry_check account_at
@@ -140,7 +142,8 @@ refused_entries = refl
 
 entries_have_lines : entry_lines (after empty
     (into (codes "main") (nothing ∷ bought ∷ nothing ∷ bought ∷ []) ∷ [])) ≡ (1 ∷ 2 ∷ []) ∷ []
-unfolding step effect_of change_effect plan_effect work_effect limits_of right_word into bought nothing
+unfolding step effect_of change_effect plan_effect work_effect limits_of right_word into bought
+    nothing
     entry_lines
     plan_manual given_sets given_set space_of given_record record_in_register record_set is_code
     parse_num digits_from decimals_from last_digits_from units_of
@@ -196,6 +199,7 @@ shown_of_type : replies (after empty
       state = Written;
     })) ∷ []
 unfolding step effect_of change_effect plan_effect work_effect limits_of right_word
-    plan_write plan_content kind_of_request content_of cells_of is_code parse_num digits_from decimals_from
-    last_digits_from units_of sum_text units_text number_text document_answer document_effect
+    plan_write plan_content kind_of_request content_of cells_of is_code parse_num digits_from
+    decimals_from last_digits_from units_of sum_text units_text number_text document_answer
+    document_effect
 shown_of_type = refl

@@ -66,7 +66,8 @@ no_number_left : replies no_more
     ≡ Refused (Limit Numbers 4_294_967_295) ∷ stands true 1 Posted
     ∷ Done (Acknowledged (BooksClosed eleventh)) ∷ Refused (Closed eleventh)
     ∷ Done (Acknowledged (BooksClosed tenth)) ∷ stands true 1 Marked ∷ []
-unfolding step effect_of change_effect plan_effect work_effect limits_of right_word no_more refused_entry
+unfolding step effect_of change_effect plan_effect work_effect limits_of right_word no_more
+    refused_entry
     plan_manual given_sets given_set space_of given_record record_in_register record_set is_code
     parse_num digits_from decimals_from last_digits_from units_of
     given_entry entry_in_ledger entry_at entry_check account_at
@@ -103,7 +104,8 @@ too_many_lines : replies blank_lines
     (write_at 1 None None (codes "note") tenth [] (so_many 1_001 [])
     ∷ write_at 1 None None (codes "note") tenth [] (so_many 1_000 []) ∷ [])
     ≡ Refused (Limit Lines 1_000) ∷ stands true 1 Written ∷ []
-unfolding step effect_of change_effect plan_effect work_effect limits_of right_word blank_lines so_many
+unfolding step effect_of change_effect plan_effect work_effect limits_of right_word blank_lines
+    so_many
     plan_write plan_content kind_of_request content_of cells_of
 too_many_lines = refl
 

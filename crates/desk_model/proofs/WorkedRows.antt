@@ -197,7 +197,8 @@ second_first = refl
 -- it takes no number twice, and none but 0 for a request that draws none
 taken : serial shop after_nails.serial (record { number = 1; request = nails_under 1 })
     ≡ Err bad_number
-unfolding step effect_of change_effect plan_effect work_effect limits_of right_word serial after_nails
+unfolding step effect_of change_effect plan_effect work_effect limits_of right_word serial
+    after_nails
     plan_manual given_sets given_set space_of given_record record_in_register record_set is_code
     parse_num digits_from decimals_from last_digits_from units_of
 taken = refl
@@ -214,7 +215,8 @@ drawn_for_a_question = refl
 
 drawn_for_another : serial shop after_nails.serial
     (record { number = 2; request = manual_at 2 (Some 1) None morning [] }) ≡ Err bad_number
-unfolding step effect_of change_effect plan_effect work_effect limits_of right_word serial after_nails
+unfolding step effect_of change_effect plan_effect work_effect limits_of right_word serial
+    after_nails
     plan_manual given_sets given_set space_of given_record record_in_register record_set is_code
     parse_num digits_from decimals_from last_digits_from units_of
 drawn_for_another = refl

@@ -35,15 +35,15 @@ use Rattle.desk_model.specs.RecordSets.{is_made, with_lines, record_set, most_re
 use Rattle.desk_model.specs.RecordSets.{with_set, with_given, given_by_hand}
 use Rattle.desk_model.specs.State.{Setting}
 use Rattle.desk_model.specs.DocumentSets.{document_of, sets_before, with_yield}
-use Rattle.desk_plans.specs.declared.tried.PartFault.{PartFault}
-use Rattle.desk_plans.specs.declared.tried.PartFault.TheVariants.{Refused, Memory}
+use Rattle.reg_base.specs.declared.tried.Fault.{Fault}
+use Rattle.reg_base.specs.declared.tried.Fault.TheVariants.{Refused, Memory}
 use Rattle.desk_plans.specs.Bounds.{AreNumbers, HaveNumbers, IsWithinBounds}
 use Rattle.desk_plans.specs.Bounds.{GivesNumbersIn}
 use Rattle.desk_plans.specs.DocumentParts.{with_sets}
-use Rattle.desk_plans.specs.Tries.{Tries}
+use Rattle.reg_base.specs.Tries.{Tries}
 
 -- what the definition has, the call has
-pub IfOk-Tries : {X : Type 0} (P : X → Type 0) (result : Result X PartFault)
+pub IfOk-Tries : {X : Type 0} (P : X → Type 0) (result : Result X (Fault Refusal))
     (definition : Result X Refusal) → Tries result definition → IfOk definition P → IfOk result P
 IfOk-Tries P (Ok x) definition is holds =
     subst (λ (r : Result _ Refusal). IfOk r P) is holds

@@ -2,6 +2,7 @@
 use Rattle.std.specs.Prelude.{◌≡◌, ◌≤◌, ℤ, true, ⊤, List, All, length}
 use Rattle.reg_base.specs.declared.records.Document.{Document}
 use Rattle.reg_base.specs.declared.records.Rec.{Rec}
+use Rattle.reg_base.specs.Documents.{AreShort}
 use Rattle.post_model.specs.Scenes.{is_number}
 use Rattle.desk_model.specs.declared.plan.Given.{Given}
 use Rattle.desk_model.specs.declared.plan.GivenSet.{GivenSet}
@@ -9,10 +10,6 @@ use Rattle.desk_model.specs.declared.plan.GivenSet.TheVariants.{Records, Entries
 use Rattle.desk_model.specs.declared.plan.Source.{Source}
 use Rattle.desk_model.specs.declared.plan.Source.TheVariants.{ByHand, ByRules, Kept, Nothing}
 use Rattle.desk_model.specs.declared.plan.Source.TheVariants.{Removed}
-
--- no set has more than 5,000 records or entries
-abbrev pub AreShort : {X : Type 0} → List (List X) → Type 0
-AreShort sets = All (λ set. length set ≤ 5_000) sets
 
 -- none of the numbers is past the largest one
 abbrev pub AreNumbers : List ℤ → Type 0

@@ -3,4 +3,3 @@ pub mod Contents
 pub mod DocumentParts
 pub mod ShownSets
 pub mod Sights
-pub mod Tries

@@ -2,7 +2,8 @@
 ghost use Rattle.std.specs.Prelude.{◌≡◌, ◌≤◌, ◌*◌, length};
 ghost use Rattle.std.specs.List.{sum_by};
 ghost use Rattle.desk_model.specs.Limits.{record_count as record_count_of};
-ghost use Rattle.desk_plans.specs.Bounds.{AreShort, IsWithinBounds};
+ghost use Rattle.reg_base.specs.Documents.{AreShort};
+ghost use Rattle.desk_plans.specs.Bounds.{IsWithinBounds};
 
 use reg_base::{Document, List};
 

@@ -13,7 +13,7 @@ ghost use Rattle.desk_model.specs.RecordSets.{no_sets as no_sets_of};
 ghost use Rattle.desk_model.specs.RecordSets.{given_by_hand as given_by_hand_of};
 ghost use Rattle.desk_plans.specs.Bounds.{IsWithinBounds, GivesNumbers};
 ghost use Rattle.desk_plans.specs.DocumentParts.{with_sets};
-ghost use Rattle.desk_plans.specs.Tries.{Tries};
+ghost use Rattle.reg_base.specs.Tries.{Tries};
 
 use crate::copies::copy_sets;
 use crate::making::{given_by_hand, no_sets};
@@ -24,8 +24,8 @@ use desk_model::{GivenSet, Plan, Source};
 use desk_words::Refusal;
 use doc_store::Balances;
 use post_model::yields_are_within_limits;
-use post_rules::{Fault, yield_sets};
-use reg_base::{Doc, Document, List, Memory, Sets};
+use post_rules::yield_sets;
+use reg_base::{Doc, Document, Fault, List, Memory, Sets};
 use rule_lang::Rules;
 use std::alloc::Global;
 

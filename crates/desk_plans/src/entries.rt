@@ -5,8 +5,8 @@ ghost use Rattle.reg_base.specs.declared.fault.PostFault.TheVariants.{TooManyRec
 ghost use Rattle.cfg_model.specs.Entries.{entry_check};
 ghost use Rattle.desk_model.specs.Entries.{is_entry_made as is_made_of, entry_at as entry_at_line};
 ghost use Rattle.desk_model.specs.Entries.{or_entry_fault, entries_from};
-ghost use Rattle.desk_plans.specs.declared.tried.PartFault.TheVariants.{Refused};
-ghost use Rattle.desk_plans.specs.Tries.{Tries};
+ghost use Rattle.reg_base.specs.declared.tried.Fault.TheVariants.{Refused};
+ghost use Rattle.reg_base.specs.Tries.{Tries};
 
 use crate::tried::{PartFault, Tried};
 use cfg_model::{Chart, check_entry};

@@ -6,7 +6,7 @@ ghost use Rattle.desk_model.specs.Fields.{cell_in as cell_in_scale, text_for as 
 ghost use Rattle.desk_model.specs.Fields.{is_field as is_field_of, unknown_field};
 ghost use Rattle.desk_model.specs.Fields.{field_texts as texts_of_fields};
 ghost use Rattle.desk_model.specs.Fields.{cell_text as text_of_cell};
-ghost use Rattle.desk_plans.specs.Tries.{Tries};
+ghost use Rattle.reg_base.specs.Tries.{Tries};
 
 use crate::given::wrong;
 use crate::part::units_in;

@@ -8,8 +8,8 @@ ghost use Rattle.desk_model.specs.GivenRecords.{given_record as record_of_text};
 ghost use Rattle.desk_model.specs.GivenRecords.{record_in_register as record_of_register};
 ghost use Rattle.desk_model.specs.GivenRecords.{given_entry as entry_of_text};
 ghost use Rattle.desk_model.specs.GivenRecords.{entry_in_ledger as entry_of_ledger};
-ghost use Rattle.desk_plans.specs.declared.tried.PartFault.TheVariants.{Refused};
-ghost use Rattle.desk_plans.specs.Tries.{Tries};
+ghost use Rattle.reg_base.specs.declared.tried.Fault.TheVariants.{Refused};
+ghost use Rattle.reg_base.specs.Tries.{Tries};
 
 use crate::part::{units_in, values_for};
 use crate::sides::copy_side;

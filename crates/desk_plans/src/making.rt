@@ -7,7 +7,7 @@ ghost use Rattle.desk_model.specs.RecordSets.{given_by_hand as given_by_hand_of}
 ghost use Rattle.desk_model.specs.RecordSets.{with_given as with_given_of};
 ghost use Rattle.desk_model.specs.RecordSets.{with_lines as with_lines_of};
 ghost use Rattle.desk_model.specs.Entries.{entry_set as entry_set_of};
-ghost use Rattle.desk_plans.specs.Tries.{Tries};
+ghost use Rattle.reg_base.specs.Tries.{Tries};
 
 use crate::entries::{entry_set, too_many_records};
 use crate::tried::Tried;

@@ -11,7 +11,7 @@ ghost use Rattle.desk_model.specs.Manuals.{plan_manual as plan_of_manual};
 ghost use Rattle.desk_model.specs.declared.plan.Space.TheVariants as SpaceIs;
 ghost use Rattle.desk_plans.specs.Bounds.{GivesNumbersIn};
 ghost use Rattle.desk_plans.specs.Sights.{sight_view, Suits};
-ghost use Rattle.desk_plans.specs.Tries.{Tries};
+ghost use Rattle.reg_base.specs.Tries.{Tries};
 
 use crate::copies::comment_or_empty;
 use crate::given::{ReadsRecord, wrong};

@@ -7,7 +7,7 @@ ghost use Rattle.desk_model.specs.States.{takes_switch as takes_switch_of};
 ghost use Rattle.desk_model.specs.States.{switched_state as switched_state_of};
 ghost use Rattle.desk_model.specs.Writes.{plan_write as plan_of_write};
 ghost use Rattle.desk_plans.specs.Sights.{sight_view, Suits};
-ghost use Rattle.desk_plans.specs.Tries.{Tries};
+ghost use Rattle.reg_base.specs.Tries.{Tries};
 
 use crate::copies::copy_doc;
 use crate::sight::Sight;

@@ -4,7 +4,7 @@ ghost use Rattle.desk_model.specs.Posts.{plan_post as plan_of_post};
 ghost use Rattle.desk_model.specs.Posts.{plan_standing as plan_of_standing};
 ghost use Rattle.desk_model.specs.Posts.{plan_unpost as plan_of_unpost};
 ghost use Rattle.desk_plans.specs.Sights.{sight_view, Suits};
-ghost use Rattle.desk_plans.specs.Tries.{Tries};
+ghost use Rattle.reg_base.specs.Tries.{Tries};
 
 use crate::copies::copy_doc;
 use crate::sight::Sight;

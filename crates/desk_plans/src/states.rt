@@ -14,7 +14,7 @@ ghost use Rattle.desk_model.specs.Writes.{is_written_kind as is_written_kind_doc
 ghost use Rattle.desk_model.specs.Posts.{is_unmarked_kind as is_unmarked_kind_doc};
 ghost use Rattle.desk_model.specs.Posts.{is_posted_kind as is_posted_kind_doc};
 ghost use Rattle.desk_plans.specs.Sights.{sight_view};
-ghost use Rattle.desk_plans.specs.Tries.{Tries, TriesAs};
+ghost use Rattle.reg_base.specs.Tries.{Tries, TriesAs};
 
 use crate::sight::Sight;
 use crate::tried::{PartFault, Tried};

@@ -10,7 +10,7 @@ ghost use Rattle.desk_model.specs.Writes.{keeps_kind as keeps_kind_of, is_kind a
 ghost use Rattle.desk_plans.specs.Bounds.{GivesNumbers};
 ghost use Rattle.desk_plans.specs.Contents.{content_view};
 ghost use Rattle.desk_plans.specs.Sights.{sight_view, RemovesOne, Suits};
-ghost use Rattle.desk_plans.specs.Tries.{Tries, TriesAs};
+ghost use Rattle.reg_base.specs.Tries.{Tries, TriesAs};
 
 use crate::copies::comment_or_empty;
 use crate::fields::cells_of;

@@ -105,7 +105,8 @@ file_succeeds words shelf shelf_now before now setting input name (Err FileTooLo
     absurd (not_both (file_read (file_named name may.holds.all) most_config_bytes) may.holds.bytes
     TooLong
     (rw same_name at may.holds.read) (rw may.holds.files at run.0))
-file_succeeds words shelf shelf_now before now setting input name (Err InputTooLong) may is_run run =
+file_succeeds words shelf shelf_now before now setting input name (Err InputTooLong) may is_run
+    run =
     let beyond = rw may.input_is at run.run.1.beyond in
     absurd (omega (arith, beyond.0, may.within))
 

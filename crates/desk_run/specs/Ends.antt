@@ -89,7 +89,8 @@ Complains words (Err fault) before now faults faults_now =
     WritesLine (fault_line words fault) before now faults faults_now
 
 -- the words ask for a run with a file that holds this configuration, with rules that are accepted
-pub record HoldsConfig (words : List (List ℕ)) (shelf : ShelfState) (setting : Setting) : Type 0 where
+pub record HoldsConfig (words : List (List ℕ)) (shelf : ShelfState) (setting : Setting)
+    : Type 0 where
   pub name : List ℕ
   pub is_run : IsRun words name
   pub all : List (List ℕ × List ℕ)

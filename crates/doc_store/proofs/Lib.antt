@@ -1,3 +1,4 @@
+mod DateLemmas
 mod HolderLemmas
 mod PairLemmas
 mod PlaceLemmas

@@ -1,3 +1,4 @@
+pub mod Dates
 pub mod Holders
 pub mod Kept
 pub mod Pairs

@@ -24,5 +24,6 @@ pub trait Balances {
         skip: u32,
     ) -> Result<List<SumRow>, Memory>
         ensures { IfOk result (λ rows. rows ≡ balance_of (resources self.now register)
-            (without_recorder skip (books self.now register)) filter.now (Some group.now) cut.now) };
+            (without_recorder skip (books self.now register)) filter.now (Some group.now)
+            cut.now) };
 }

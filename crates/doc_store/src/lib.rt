@@ -14,6 +14,7 @@
 
 mod balances;
 mod committed;
+mod dates;
 mod documents;
 mod index;
 mod place;

@@ -1,15 +1,17 @@
 //! A store: committed documents, and what is staged in slot 0.
 ghost use Rattle.std.specs.Prelude.{◌≡◌, None, Some, [], ◌∷◌, ◌<◌, ◌^◌};
-ghost use Rattle.std.specs.Prelude.{length, IfSome, IfOk, OnOk, OnErr};
+ghost use Rattle.std.specs.Prelude.{length, map, IfSome, IfOk, OnOk, OnErr};
 ghost use Rattle.std.specs.Option.{option_copied, option_map};
 ghost use Rattle.reg_base.specs.Documents.{document_at, holder_of as first_holder, AreInOrder};
+ghost use Rattle.reg_base.specs.Documents.{documents_between};
 ghost use Rattle.doc_store.specs.declared.staged.Staged.TheVariants as StagedIs;
 ghost use Rattle.doc_store.specs.Stores.{IsViewer, empty_store, room_of, seen, kept as with_all};
 
 use crate::committed::Committed;
+use crate::dates::numbers_between;
 use crate::documents::Documents;
 use crate::staged::Staged;
-use reg_base::{Code, Doc, Document, Memory, Sets};
+use reg_base::{Code, Date, Doc, Document, List, Memory, Sets};
 use std::alloc::Global;
 use std::marker::Model;
 use std::snapshot::Snapshot;
@@ -177,8 +179,17 @@ impl Store {
         }
     }
 
+    /// The numbers of the committed documents whose dates lie in a range, both ends included, in
+    /// order of date and, within a second, of number.
+    pub fn documents(&self, from: Date, to: Date) -> Result<List<u32>, Memory>
+        ensures { IfOk result (λ numbers. numbers
+            ≡ map (λ d. d.doc.number) (documents_between from to self.now.documents)) }
+    {
+        numbers_between(self.alloc, self.walk(), from, to)
+    }
+
     /// The committed documents in order of number.
-    pub fn documents(&self) -> Documents<'_>
+    pub fn walk(&self) -> Documents<'_>
         ensures walk { result ≡ self.now.documents }
         ensures ordered { AreInOrder self.now.documents }
         ensures fits { length self.now.documents < 2 ^ 63 }

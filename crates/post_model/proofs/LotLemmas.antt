@@ -1,7 +1,7 @@
 -- The holdings of what is left are of different lots, so that no lot goes below zero.
-use Rattle.std.proofs.Common.{◌≡◌, ℕ, ◌≤◌, ℤ, pos, ◌+ℤ◌, ◌≤ℤ◌, Bool, true, false, cond, Option}
+use Rattle.std.proofs.Common.{◌≡◌, ℕ, suc, ◌≤◌, ℤ, pos, ◌+ℤ◌, ◌≤ℤ◌, Bool, true, false, cond, Option}
 use Rattle.std.proofs.Common.{Some, None, List, [], ◌∷◌, map, filter, length, IfOk, refl, ap}
-use Rattle.std.proofs.Common.{◌∙◌, subst, arith}
+use Rattle.std.proofs.Common.{◌∙◌, sym, subst, unwrap_or, arith}
 use Rattle.std.specs.Prelude.{slice_get}
 use Rattle.std.specs.List.{All, AllByRecursion, cons_option}
 use Rattle.std.specs.List.Sorted.{IsStrictlySortedBy}
@@ -9,6 +9,7 @@ use Rattle.std.specs.Ordering.{is_eq, ordering_then, ordering_reverse}
 use Rattle.std.specs.declared.cmp.Ordering.{Ordering}
 use Rattle.std.specs.declared.cmp.Ordering.TheVariants.{Less, Equal, Greater}
 use Rattle.std.proofs.lemmas.Cmp.{tied_itself}
+use Rattle.std.proofs.lemmas.Option.{slice_get_within, unwrap_or-slice_get}
 use Rattle.std.proofs.lemmas.Int.{ints}
 use Rattle.std.proofs.lemmas.List.Elements.{All-from_recursion, All-weaker}
 use Rattle.std.proofs.lemmas.Result.{IfOk-weaker}
@@ -17,9 +18,13 @@ use Rattle.reg_base.specs.Records.{Booked, value_cmp, values_cmp}
 use Rattle.reg_base.specs.declared.records.SumRow.{SumRow}
 use Rattle.reg_base.specs.declared.value.Value.{Value}
 use Rattle.cfg_model.specs.declared.config.Config.{Config}
+use Rattle.cfg_model.specs.declared.register.Register.{Register}
+use Rattle.cfg_model.specs.declared.register.Dimension.{Dimension}
+use Rattle.cfg_model.specs.Limits.{IsRegisterWithinLimits, IsWithinLimits}
+use Rattle.post_model.specs.Lefts.{dimensions_of}
 use Rattle.post_model.specs.Scenes.{Scene}
 use Rattle.post_model.specs.WriteOffs.{holding_of, in_stock, all_in_stock, write_off}
-use Rattle.post_model.specs.Yields.{depth_of, told_apart, holdings_of}
+use Rattle.post_model.specs.Yields.{depth_of, lot_places, told_apart, holdings_of}
 use Rattle.post_model.specs.Laws.{quantity_of, same_lot, of_lot, AreTakenFrom, LeavesNoneBelowZero}
 use Rattle.post_model.specs.declared.holding.Holding.{Holding}
 use Rattle.reg_base.proofs.ForAbove.{values_cmp_total, groups_of-rising, groups_of-all}
@@ -183,3 +188,42 @@ module _ (config : Config) (fifo : Bool) (register quantity amount : ℕ) (left 
     where
       alone_is : (a b : ℤ) → a ≤ℤ (b +ℤ pos 0) → a ≤ℤ b
       alone_is a b h = omega (arith, ints)
+
+-- ---- a register has one lot at the most
+
+lot_places-length : (place : ℕ) (ds : List Dimension)
+    → length (lot_places place ds) ≡ length (filter (λ d. d.lot) ds)
+unfolding lot_places
+lot_places-length place [] = refl
+lot_places-length place (d ∷ ds) = at (lot_places-length (suc place) ds) d.lot
+  where
+    at : length (lot_places (suc place) ds) ≡ length (filter (λ e. e.lot) ds) → (b : Bool)
+        → length (lot_places place (record d { lot = b } ∷ ds))
+        ≡ length (filter (λ e. e.lot) (record d { lot = b } ∷ ds))
+    at others true = ap suc others
+    at others false = others
+
+-- under a configuration within its limits what is left is told apart by one dimension at the most
+told_apart-few : (config : Config) (register : ℕ) (fifo : Bool) → IsWithinLimits config
+    → length (told_apart config register fifo) ≤ 1
+unfolding lot_places
+told_apart-few config register false limits = omega arith
+told_apart-few config register true limits =
+    at (slice_get config.registers register) refl
+  where
+    at : (found : Option Register) → slice_get config.registers register ≡ found
+        → length (lot_places 0 (dimensions_of found)) ≤ 1
+    at None is = omega arith
+    at (Some r) is =
+        let within : IsRegisterWithinLimits r = subst IsRegisterWithinLimits
+        (sym (unwrap_or-slice_get config.registers register r) ∙ ap (λ o. unwrap_or o r) is)
+        (limits.each_register register r (slice_get_within config.registers register r is)) in
+        omega (arith, lot_places-length 0 r.dimensions, within.one_lot)
+
+pub write_off-leaves_none : (config : Config) (fifo : Bool) (register quantity amount : ℕ)
+    (left : List Booked) → IsWithinLimits config → (scene : Scene) (wanted : ℤ)
+    → IfOk (write_off scene wanted (holdings_of config fifo register quantity amount left))
+    (LeavesNoneBelowZero (holdings_of config fifo register quantity amount left))
+write_off-leaves_none config fifo register quantity amount left limits =
+    write_off-leaves config fifo register quantity amount left
+    (told_apart-few config register fifo limits)

@@ -1,15 +1,16 @@
 //! Laws over the definitions, each the contract of a function that does nothing.
-ghost use Rattle.std.specs.Prelude.{◌≡◌, ℕ, ◌≤◌, ℤ, Bool, List, length, Ok, IfOk};
+ghost use Rattle.std.specs.Prelude.{◌≡◌, ℕ, ℤ, Bool, List, Ok, IfOk};
 ghost use Rattle.std.specs.List.{All};
 ghost use Rattle.reg_base.specs.Records.{Booked};
 ghost use Rattle.reg_base.specs.declared.records.Doc.{Doc};
 ghost use Rattle.cfg_model.specs.declared.config.Config.{Config};
+ghost use Rattle.cfg_model.specs.Limits.{IsWithinLimits};
 ghost use Rattle.rule_lang.specs.declared.rules.Rules.{Rules};
 ghost use Rattle.post_model.specs.declared.holding.Holding.{Holding};
 ghost use Rattle.post_model.specs.declared.made.Yield.{Yield};
 ghost use Rattle.post_model.specs.Scenes.{Scene};
 ghost use Rattle.post_model.specs.WriteOffs.{write_off};
-ghost use Rattle.post_model.specs.Yields.{told_apart, holdings_of, yield_of};
+ghost use Rattle.post_model.specs.Yields.{holdings_of, yield_of};
 ghost use Rattle.post_model.specs.Laws.{AgreeOn, AreSetsOf, AreTakenFrom, LeavesNoneBelowZero};
 
 /// A law: what posting makes rests on what its reads name. Of other books that agree with these on
@@ -37,11 +38,12 @@ pub fn write_offs_take_what_is_wanted()
         → IfOk (write_off scene wanted holdings) (AreTakenFrom holdings wanted) }
 {}
 
-/// A law: of what is left in a register with one dimension of lots at the most, a write-off takes
-/// from the lot of each holding not more than the holding has above zero.
+/// A law: under a configuration within its limits, of which each register has one dimension of lots
+/// at the most, a write-off takes from the lot of each holding not more than the holding has above
+/// zero.
 pub fn no_lot_goes_below_zero()
     ensures { (config : Config) (fifo : Bool) (register quantity amount : ℕ) (left : List Booked)
-        → length (told_apart config register fifo) ≤ 1 → (scene : Scene) (wanted : ℤ)
+        → IsWithinLimits config → (scene : Scene) (wanted : ℤ)
         → IfOk (write_off scene wanted (holdings_of config fifo register quantity amount left))
         (LeavesNoneBelowZero (holdings_of config fifo register quantity amount left)) }
 {}

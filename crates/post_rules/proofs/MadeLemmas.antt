@@ -37,11 +37,11 @@ use Rattle.post_model.specs.Makes.{expenses_made, entry_made, numbers_for, mark_
 use Rattle.post_model.specs.Makes.{taken_numbers, checked, entry_behind, side_value}
 use Rattle.post_model.specs.Yields.{width_of, depth_of, holdings_of, written_off, left_sum, act_on}
 use Rattle.post_model.specs.Yields.{noted, act_run}
-use Rattle.post_rules.specs.declared.fault.Fault.{Fault}
+use Rattle.reg_base.specs.declared.tried.Fault.{Fault}
 use Rattle.post_rules.specs.Sheets.{HasNumbers, IsSheet}
 use Rattle.post_rules.specs.Bounds.{largest_sum, IsSmallHolding, AreSmallHoldings}
 use Rattle.post_rules.specs.Bounds.{IsSmallSet, IsSmallMade, IsReadable}
-use Rattle.post_rules.specs.Tries.{Tries}
+use Rattle.reg_base.specs.Tries.{Tries}
 use Rattle.post_rules.proofs.LeftLemmas.{sum-within}
 use Rattle.post_rules.proofs.LeftLemmas.{small-place, IsReadable-left_of, AreSmall-holdings_of}
 use Rattle.post_rules.proofs.SmallTakes.{AreSmall-taken}

@@ -112,7 +112,8 @@ own-reach asked number by resources rows old now recs i sheet begun few adds =
     let own : List Booked = own_expenses asked number (take i recs) in
     let first : AreInReach count old =
     subst (AreInReach count) (sym (begun ∙ sheet.same))
-    (within-sum_rows (2 ^ 63) resources by sheet.records (amounts-sheet sheet.records sheet.sheet)) in
+    (within-sum_rows (2 ^ 63) resources by sheet.records
+    (amounts-sheet sheet.records sheet.sheet)) in
     reach-more (count + length own) (2 ^ 46)
     (omega (arith, sheet.sheet.few, length-own asked number (take i recs), length-take i recs, few))
     now (adds.reach count first)

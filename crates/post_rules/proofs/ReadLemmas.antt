@@ -14,8 +14,8 @@ use Rattle.post_model.specs.declared.made.Made.{Made}
 use Rattle.post_model.specs.Lefts.{read_item, read_of, left_of, found_by}
 use Rattle.post_model.specs.Yields.{depth_of, holdings_of, left_sum, act_on, noted, act_run}
 use Rattle.post_rules.specs.ActParts.{written_from, required_of}
-use Rattle.post_rules.specs.declared.fault.Fault.{Fault}
-use Rattle.post_rules.specs.Tries.{Tries}
+use Rattle.reg_base.specs.declared.tried.Fault.{Fault}
+use Rattle.reg_base.specs.Tries.{Tries}
 
 -- an act that reads an item makes what it makes of what is left of it, the read being noted
 pub read-run : (config : Config) (books : ℕ → List Booked) (scene : Scene) (act : Act)

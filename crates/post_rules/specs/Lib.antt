@@ -2,4 +2,4 @@ pub mod ActParts
 pub mod Bounds
 pub mod SceneViews
 pub mod Sheets
-pub mod Tries
+pub mod Onward

@@ -10,12 +10,12 @@ ghost use Rattle.post_model.specs.Yields.{passed_over as passed_over_by};
 ghost use Rattle.post_rules.specs.ActParts.{written_from, required_of};
 ghost use Rattle.post_rules.specs.Bounds.{CanRead, IsSmallScene, IsSmallSet, AreSmallHoldings};
 ghost use Rattle.post_rules.specs.SceneViews.{scene_view};
-ghost use Rattle.post_rules.specs.Tries.{Tries};
-ghost use Rattle.post_rules.specs.declared.fault.Fault.TheVariants.{Refused};
+ghost use Rattle.reg_base.specs.Tries.{Tries};
+ghost use Rattle.reg_base.specs.declared.tried.Fault.TheVariants.{Refused};
 
 use crate::entries::{entry_made, side_of};
 use crate::expenses::written_off;
-use crate::fault::{Fault, Tried, YieldFault};
+use crate::fault::{Tried, YieldFault};
 use crate::lefts::{holdings_left, sum_left};
 use crate::numbers::numbers_for;
 use crate::places::{depth_of, width_of};
@@ -26,7 +26,7 @@ use crate::write_offs::write_off;
 use cfg_model::Config;
 use doc_store::Balances;
 use post_model::{Holding, Made};
-use reg_base::{Code, Item, Memory, PostFault};
+use reg_base::{Code, Fault, Item, Memory, PostFault};
 use rule_lang::{Act, Bind, Place, Sum, Verb};
 use std::alloc::Global;
 

@@ -4,7 +4,7 @@ ghost use Rattle.post_model.specs.Scenes.{code_value, cond_holds, when_holds as 
 ghost use Rattle.rule_lang.specs.declared.statement.Cond.TheVariants.{Sums};
 ghost use Rattle.post_rules.specs.Bounds.{IsSmallScene};
 ghost use Rattle.post_rules.specs.SceneViews.{scene_view};
-ghost use Rattle.post_rules.specs.Tries.{Tries};
+ghost use Rattle.reg_base.specs.Tries.{Tries};
 
 use crate::fault::Tried;
 use crate::scene::{Scene, code_in, compares};

@@ -5,14 +5,15 @@ ghost use Rattle.post_model.specs.Makes.{at_place, with_ledgers, side_value};
 ghost use Rattle.post_model.specs.Makes.{entry_behind as entry_behind_of, checked as checked_of};
 ghost use Rattle.post_model.specs.Makes.{entry_made as entry_made_of};
 ghost use Rattle.post_rules.specs.SceneViews.{scene_view};
-ghost use Rattle.post_rules.specs.Tries.{Tries, onward};
+ghost use Rattle.reg_base.specs.Tries.{Tries};
+ghost use Rattle.post_rules.specs.Onward.{onward};
 
-use crate::fault::{Fault, Tried};
+use crate::fault::Tried;
 use crate::records::{MOST_RECORDS, put_back, taken_out};
 use crate::scene::Scene;
 use cfg_model::{Chart, Config, check_entry};
 use post_model::Made;
-use reg_base::{Code, List, Memory, PostFault, Posting, Sets, Side};
+use reg_base::{Code, Fault, List, Memory, PostFault, Posting, Sets, Side};
 use rule_lang::{CodeTerm, Place};
 use std::alloc::Global;
 

@@ -9,7 +9,7 @@ ghost use Rattle.post_model.specs.Yields.{width_of as width_at, depth_of as dept
 ghost use Rattle.post_rules.specs.Bounds.{AreSmallHoldings};
 ghost use Rattle.post_rules.specs.ActParts.{expenses_for};
 ghost use Rattle.post_rules.specs.SceneViews.{scene_view};
-ghost use Rattle.post_rules.specs.Tries.{Tries};
+ghost use Rattle.reg_base.specs.Tries.{Tries};
 
 use crate::fault::Tried;
 use crate::numbers::taken_numbers;

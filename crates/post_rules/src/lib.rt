@@ -30,5 +30,5 @@ mod terms;
 mod write_offs;
 mod yields;
 
-pub use fault::{Fault, YieldFault};
+pub use fault::YieldFault;
 pub use yields::{statements_for, yield_sets};

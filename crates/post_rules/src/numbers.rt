@@ -7,7 +7,7 @@ ghost use Rattle.post_model.specs.Makes.{numbers_for as numbers_for_in};
 ghost use Rattle.post_model.specs.Makes.{taken_numbers as taken_numbers_of};
 ghost use Rattle.post_rules.specs.Bounds.{IsSmallScene};
 ghost use Rattle.post_rules.specs.SceneViews.{scene_view};
-ghost use Rattle.post_rules.specs.Tries.{Tries};
+ghost use Rattle.reg_base.specs.Tries.{Tries};
 
 use crate::fault::Tried;
 use crate::scene::Scene;

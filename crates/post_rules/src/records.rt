@@ -7,13 +7,14 @@ ghost use Rattle.post_model.specs.Makes.{mark_of as mark_for, are_zero as are_al
 ghost use Rattle.post_model.specs.Makes.{record_behind as record_behind_of, with_registers};
 ghost use Rattle.post_model.specs.Makes.{record_made as record_made_of};
 ghost use Rattle.post_rules.specs.SceneViews.{scene_view};
-ghost use Rattle.post_rules.specs.Tries.{Tries, onward};
+ghost use Rattle.reg_base.specs.Tries.{Tries};
+ghost use Rattle.post_rules.specs.Onward.{onward};
 
-use crate::fault::{Fault, Tried};
+use crate::fault::Tried;
 use crate::scene::Scene;
 use crate::terms::is_number;
 use post_model::Made;
-use reg_base::{List, Mark, Memory, PostFault, Rec, Sets, Value};
+use reg_base::{Fault, List, Mark, Memory, PostFault, Rec, Sets, Value};
 use rule_lang::Verb;
 use std::alloc::Global;
 use std::mem;

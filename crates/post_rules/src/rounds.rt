@@ -5,7 +5,7 @@ ghost use Rattle.post_model.specs.Yields.{statement_run, round_run, round_begun,
 ghost use Rattle.post_model.specs.Yields.{run_in_round as run_in_round_of};
 ghost use Rattle.post_rules.specs.Bounds.{CanRead, IsSmallScene, IsSmallMade};
 ghost use Rattle.post_rules.specs.SceneViews.{scene_view};
-ghost use Rattle.post_rules.specs.Tries.{Tries};
+ghost use Rattle.reg_base.specs.Tries.{Tries};
 
 use crate::acts::{passed_over, run_act};
 use crate::fault::Tried;

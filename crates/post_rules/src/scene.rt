@@ -4,7 +4,7 @@ ghost use Rattle.post_model.specs.Scenes.{own_point as own_point_of, number_in a
 ghost use Rattle.post_model.specs.Scenes.{code_in as code_of, total_at as total_of};
 ghost use Rattle.post_model.specs.Scenes.{compares as compares_as, overflow as overflow_of};
 ghost use Rattle.post_rules.specs.SceneViews.{scene_view};
-ghost use Rattle.post_rules.specs.declared.fault.Fault.TheVariants.{Refused};
+ghost use Rattle.reg_base.specs.declared.tried.Fault.TheVariants.{Refused};
 
 use crate::fault::YieldFault;
 use reg_base::{Cell, Code, Doc, List, Point, PostFault};

@@ -5,7 +5,7 @@ ghost use Rattle.post_model.specs.Scenes.{opposite_if as opposite_of, part_value
 ghost use Rattle.post_model.specs.Scenes.{terms_value, sum_value, is_number as is_number_of};
 ghost use Rattle.post_rules.specs.Bounds.{IsSmallScene, largest_part};
 ghost use Rattle.post_rules.specs.SceneViews.{scene_view};
-ghost use Rattle.post_rules.specs.Tries.{Tries};
+ghost use Rattle.reg_base.specs.Tries.{Tries};
 
 use crate::fault::{Tried, YieldFault};
 use crate::scene::{Scene, number_in, total_at};

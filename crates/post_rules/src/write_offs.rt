@@ -6,10 +6,10 @@ ghost use Rattle.post_model.specs.WriteOffs.{in_stock as in_stock_of, taken_from
 ghost use Rattle.post_model.specs.WriteOffs.{all_in_stock as stock_of, taken as taken_from_all};
 ghost use Rattle.post_model.specs.WriteOffs.{write_off as write_off_of, cost_of as cost_of_all};
 ghost use Rattle.reg_base.specs.declared.fault.PostFault.TheVariants.{Negative, Shortage};
-ghost use Rattle.post_rules.specs.declared.fault.Fault.TheVariants.{Refused};
+ghost use Rattle.reg_base.specs.declared.tried.Fault.TheVariants.{Refused};
 ghost use Rattle.post_rules.specs.Bounds.{IsSmallHolding, AreSmallHoldings, largest_part};
 ghost use Rattle.post_rules.specs.SceneViews.{scene_view};
-ghost use Rattle.post_rules.specs.Tries.{Tries};
+ghost use Rattle.reg_base.specs.Tries.{Tries};
 
 use crate::fault::{Tried, YieldFault};
 use crate::scene::Scene;

@@ -4,7 +4,7 @@ ghost use Rattle.cfg_model.specs.Limits.{IsWithinLimits};
 ghost use Rattle.post_model.specs.Yields.{yield_of, statements_for as statements_of};
 ghost use Rattle.post_model.specs.Yields.{nothing_made as nothing_made_of, depth_of};
 ghost use Rattle.post_rules.specs.Sheets.{IsSheet};
-ghost use Rattle.post_rules.specs.Tries.{Tries};
+ghost use Rattle.reg_base.specs.Tries.{Tries};
 
 use crate::fault::YieldFault;
 use crate::rounds::{begin_round, run_lines};

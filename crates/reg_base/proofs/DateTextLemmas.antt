@@ -15,8 +15,10 @@ use Rattle.jiff_core.proofs.CalendarLemmas.{days_in_month_bounds}
 use Rattle.reg_base.specs.declared.day.Day.{Day}
 use Rattle.reg_base.specs.Numbers.{decimal_value, last_digits}
 use Rattle.reg_base.specs.Dates.{number_between, day_spelt, second_spelt, date_of, parse_long_date}
-use Rattle.reg_base.specs.Dates.{parse_date, day_from_month, day_from_year, day_of, day_text}
-use Rattle.reg_base.specs.Dates.{second_text, date_text}
+use Rattle.reg_base.specs.Dates.{parse_date, parse_date_end, day_from_month, day_from_year, day_of}
+use Rattle.reg_base.specs.Dates.{day_text, second_text, date_text}
+use Rattle.reg_base.specs.Days.{IsDayNumber, IsInCentury}
+use Rattle.reg_base.specs.Units.{calendar_day}
 use Rattle.reg_base.proofs.DigitLemmas.{all_digits-last_digits, read_on-last_digits}
 use Rattle.reg_base.proofs.DayLemmas.{day_count-2000, day_count-2100, has_day-is}
 use Rattle.reg_base.proofs.DayLemmas.{day_from_month-here, day_from_month-later, day_from_year-here}
@@ -156,6 +158,18 @@ day_from_year-found (suc more) year days within =
           (omega arith) (omega arith) (omega arith))
     ]
 
+-- the day of the calendar with a number has this number
+pub calendar_day-number : (day : ℕ) → day < 36_525
+    → IsDayNumber (calendar_day day) (4_382_544 + day) × IsInCentury (calendar_day day)
+calendar_day-number day within =
+    let f = day_from_year-found 99 2000 day (omega (arith, day_count-2000, day_count-2100)) in (
+      record {
+        real = has_day-is (calendar_day day) f.month_in f.day_in;
+        counted = omega (arith, f.counted, day_count-2000);
+      },
+      record { first = f.low; last = f.high },
+    )
+
 day_of-found : (date : ℕ) → date < 3_155_760_000 → IsFound 2000 2099 (day_of date)
     (date / 86400 + day_count (pos 2000) 1 1)
 unfolding day_of
@@ -195,3 +209,8 @@ parse_long_date-text date within =
 pub parse_date-text : (date : ℕ) → date < 3_155_760_000 → parse_date (date_text date) ≡ Ok date
 unfolding parse_date
 parse_date-text date within = rw (length-date_text date) (parse_long_date-text date within)
+
+pub parse_date_end-text : (date : ℕ) → date < 3_155_760_000
+    → parse_date_end (date_text date) ≡ Ok date
+unfolding parse_date_end
+parse_date_end-text date within = rw (length-date_text date) (parse_long_date-text date within)

@@ -1,10 +1,12 @@
--- For the crates above: the lemmas of this crate that their proofs may cite.
+-- For the crates above: the lemmas of this crate that their proofs may cite. Those on sums over
+-- lists and on tables stand in ForTables.
 use Rattle.std.proofs.Common.{◌≡◌, ℕ, ◌+◌, ◌*◌, ◌%◌, ◌^◌, ◌<◌, ◌&&◌, min, ◌+ℤ◌, Bool, true, false}
+use Rattle.std.proofs.Common.{◌≤◌, ◌↔◌, Some, None}
 use Rattle.std.proofs.Common.{nat_lt, Option, IfSome, List, [], ◌∷◌, ◌++◌, length, get_or, IsUtf8}
 use Rattle.std.proofs.Common.{Result, Ok, IfOk}
-use Rattle.std.specs.Prelude.{filter}
+use Rattle.std.specs.Prelude.{filter, map, IsPermutation}
 use Rattle.std.specs.List.{list_all, flat_map, prefix_len, AllByRecursion}
-use Rattle.std.specs.List.Sorted.{IsStrictlySortedBy}
+use Rattle.std.specs.List.Sorted.{IsStrictlySortedBy, IsSorted}
 use Rattle.std.specs.Char.{is_ascii_digit}
 use Rattle.std.specs.Fmt.{decimal}
 use Rattle.std.specs.Str.{IsAscii}
@@ -19,12 +21,17 @@ use Rattle.reg_base.specs.contracts.value.ValueOrd.TheImpl.{ghosts}
 use Rattle.reg_base.specs.Results.{◌>>=◌, unless, some_or}
 use Rattle.reg_base.specs.Codes.{is_code, is_name}
 use Rattle.reg_base.specs.Numbers.{read_on, decimal_value, last_digits, number_text}
-use Rattle.reg_base.specs.Dates.{parse_date, date_text}
+use Rattle.reg_base.specs.Dates.{parse_date, parse_date_end, date_text}
+use Rattle.reg_base.specs.Points.{point_cmp}
 use Rattle.reg_base.specs.Cuts.{IsCut, inside, parse_cut, cut_text}
 use Rattle.reg_base.specs.Records.{Booked, value_cmp, values_cmp, put_once, point_of, booked_by}
-use Rattle.reg_base.specs.Records.{records_of, matches}
+use Rattle.reg_base.specs.Records.{records_of, matches, in_order}
 use Rattle.reg_base.specs.Balances.{group_of, groups_of, contribution, total, sum_rows, balance_of}
+use Rattle.reg_base.specs.declared.tables.Periodicity.{Periodicity}
+use Rattle.reg_base.specs.Units.{unit_start, next_unit, are_dates, IsStart, IsUnitStart, IsNextUnit}
+use Rattle.reg_base.specs.Units.{IsLastUnit, starts_between}
 use Rattle.reg_base.proofs.ResultLemmas as results
+use Rattle.reg_base.proofs.BetweenLemmas as between
 use Rattle.reg_base.proofs.CodeLemmas as spellings
 use Rattle.reg_base.proofs.NumberLemmas as numbers
 use Rattle.reg_base.proofs.DigitLemmas as digits
@@ -32,10 +39,12 @@ use Rattle.reg_base.proofs.SumTextLemmas as sums
 use Rattle.reg_base.proofs.PointTextLemmas as points
 use Rattle.reg_base.proofs.DateTextLemmas as dates
 use Rattle.reg_base.proofs.RangeLemmas as ranges
+use Rattle.reg_base.proofs.UnitLaws as units
 use Rattle.reg_base.proofs.Utf8Lemmas as utf8
 use Rattle.reg_base.proofs.OrderLemmas as orders
 use Rattle.reg_base.proofs.OnceLemmas as onces
 use Rattle.reg_base.proofs.BalanceLemmas as balances
+use Rattle.reg_base.proofs.InOrderLemmas as in_orders
 
 -- ---- readers that go on step by step
 
@@ -110,11 +119,70 @@ parse_date-text = dates.parse_date-text
 pub parse_date-within : (text : List ℕ) → IfOk (parse_date text) (λ date. date < 3_155_760_000)
 parse_date-within = ranges.parse_date-within
 
+-- the same of the end of a range
+pub parse_date_end-text : (date : ℕ) → date < 3_155_760_000
+    → parse_date_end (date_text date) ≡ Ok date
+parse_date_end-text = dates.parse_date_end-text
+
+pub parse_date_end-within : (text : List ℕ)
+    → IfOk (parse_date_end text) (λ date. date < 3_155_760_000)
+parse_date_end-within = ranges.parse_date_end-within
+
 pub parse_cut-text : (cut : Cut) → IsCut cut → parse_cut (cut_text cut) ≡ Ok cut
 parse_cut-text = points.parse_cut-text
 
 pub parse_cut-IsCut : (text : List ℕ) → IfOk (parse_cut text) IsCut
 parse_cut-IsCut = ranges.parse_cut-IsCut
+
+-- ---- units
+
+-- a start that is not above a date is not above the start of the date's unit
+pub unit_start-greatest : (by : Periodicity) (date other : ℕ) → IsStart by other → other ≤ date
+    → other ≤ unit_start by date
+unit_start-greatest = units.unit_start-greatest
+
+pub unit_start-le : (by : Periodicity) (date : ℕ) → unit_start by date ≤ date
+unit_start-le = units.unit_start-le
+
+pub unit_start-is : (by : Periodicity) (date : ℕ) → are_dates by ≡ true
+    → IsUnitStart by date (unit_start by date)
+unit_start-is = units.unit_start-is
+
+pub unit_start-monotone : (by : Periodicity) (date later : ℕ) → date ≤ later
+    → unit_start by date ≤ unit_start by later
+unit_start-monotone = units.unit_start-monotone
+
+-- the unit of a date starts before another start exactly where the date is before it
+pub unit_start-lt : (by : Periodicity) (date start : ℕ) → IsStart by start
+    → (unit_start by date < start) ↔ (date < start)
+unit_start-lt = units.unit_start-lt
+
+pub next_unit-is : (by : Periodicity) (date start : ℕ) → next_unit by date ≡ Some start
+    → IsNextUnit by date start
+next_unit-is = units.next_unit-is
+
+pub next_unit-None : (by : Periodicity) (date : ℕ)
+    → (next_unit by date ≡ None) ↔ IsLastUnit by date
+next_unit-None = units.next_unit-None
+
+-- the starts between two dates, one after the other
+pub starts_between-first : (by : Periodicity) (from to : ℕ) → are_dates by ≡ true
+    → starts_between by from to ≡ starts_between by (unit_start by from) to
+starts_between-first = between.starts_between-first
+
+pub starts_between-none : (by : Periodicity) (start to : ℕ) → IsStart by start → to < start
+    → starts_between by start to ≡ []
+starts_between-none = between.starts_between-none
+
+pub starts_between-next : (by : Periodicity) (start to next : ℕ) → IsStart by start → start ≤ to
+    → next_unit by start ≡ Some next
+    → starts_between by start to ≡ start ∷ starts_between by next to
+starts_between-next = between.starts_between-next
+
+pub starts_between-last : (by : Periodicity) (start to : ℕ) → IsStart by start → start ≤ to
+    → to < 3_155_760_000 → next_unit by start ≡ None
+    → starts_between by start to ≡ start ∷ []
+starts_between-last = between.starts_between-last
 
 -- ---- texts that are UTF-8
 
@@ -145,6 +213,27 @@ values_cmp_total = orders.values_cmp_total
 
 pub values_cmp_exact : CmpEqualImpliesEq values_cmp
 values_cmp_exact = orders.values_cmp_exact
+
+pub point_cmp_total : IsTotalOrder point_cmp
+point_cmp_total = orders.point_cmp_total
+
+pub point_cmp_exact : CmpEqualImpliesEq point_cmp
+point_cmp_exact = orders.point_cmp_exact
+
+-- the elements of a list in order are those of the list in any order
+pub in_order-permutation : {X : Type 0} {R : X → X → Ordering} → IsTotalOrder R
+    → CmpEqualImpliesEq R → (xs ys : List X) → IsPermutation xs ys → in_order R xs ≡ in_order R ys
+in_order-permutation o exact = in_orders.in_order-permutation o exact
+
+-- a sorted list is in order
+pub in_order-sorted : {X : Type 0} {R : X → X → Ordering} → IsTotalOrder R → CmpEqualImpliesEq R
+    → (xs : List X) → IsSorted R xs → in_order R xs ≡ xs
+in_order-sorted o exact = in_orders.in_order-sorted o exact
+
+-- elements in order of what is seen of them
+pub in_order-map : {X Y : Type 0} (S : Y → Y → Ordering) (view : X → Y) (xs : List X)
+    → map view (in_order (λ a b. S (view a) (view b)) xs) ≡ in_order S (map view xs)
+in_order-map = in_orders.in_order-map
 
 -- ---- balances
 

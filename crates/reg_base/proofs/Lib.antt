@@ -1,18 +1,36 @@
 mod BalanceLemmas
 mod BalanceRows
+mod BetweenLemmas
 mod CodeLemmas
 mod DateTextLemmas
 mod DayLemmas
 mod DigitLemmas
 pub mod ForAbove
+pub mod ForTables
+mod InOrderLemmas
+mod KeyLemmas
 mod NumberLemmas
 mod OnceLemmas
+mod OpeningLaws
+mod OpeningLemmas
 mod OrderLemmas
+mod PartitionLemmas
 mod PermutationLemmas
 mod PointTextLemmas
 mod RangeLemmas
 mod ResultLemmas
+mod SumLemmas
 mod SumTextLemmas
+mod TableOrder
+mod TableSums
 mod TextLemmas
+mod UnitDays
+mod UnitLaws
+mod UnitLemmas
+mod UnitParts
 mod Utf8Lemmas
+mod WorkedPeriods
 mod WorkedRows
+mod WorkedTables
+mod WorkedTurnovers
+mod WorkedUnits

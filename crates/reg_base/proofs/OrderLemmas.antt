@@ -26,7 +26,7 @@ point_cmp_total =
     then_total (on_total (λ (p : Point). p.date) nat_cmp_total)
     (on_total (λ (p : Point). p.doc) nat_cmp_total)
 
-then-Equal : (a b : Ordering) → ordering_then a b ≡ Equal → (a ≡ Equal) × (b ≡ Equal)
+pub then-Equal : (a b : Ordering) → ordering_then a b ≡ Equal → (a ≡ Equal) × (b ≡ Equal)
 then-Equal Less b h = (cc, cc)
 then-Equal Equal b h = (refl, h)
 then-Equal Greater b h = (cc, cc)

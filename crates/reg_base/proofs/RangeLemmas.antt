@@ -17,7 +17,7 @@ use Rattle.reg_base.specs.declared.num.NumFault.TheVariants.{TooManyDecimals, To
 use Rattle.reg_base.specs.Numbers.{largest_units, decimal_value, sign_len, digits_from}
 use Rattle.reg_base.specs.Numbers.{decimals_from, units_of, num_of, parse_num}
 use Rattle.reg_base.specs.Dates.{number_between, day_spelt, second_spelt, has_day, date_of}
-use Rattle.reg_base.specs.Dates.{parse_long_date, parse_date}
+use Rattle.reg_base.specs.Dates.{parse_long_date, parse_date, parse_date_end}
 use Rattle.reg_base.specs.Results.{◌>>=◌, unless}
 use Rattle.reg_base.specs.Points.{IsPoint, is_whole_number, doc_number, parse_point}
 use Rattle.reg_base.specs.Cuts.{IsCut, has_byte, cut_before, cut_through, cut_by_word, cut_alone}
@@ -78,6 +78,14 @@ parse_date-within text =
     IfOk-if IsDate (length text == 10) (day_spelt text >>= λ day. date_of day 0)
     (parse_long_date text)
     (IfOk-next IsDate (day_spelt text) _ (λ day. date_of-within day 0 (omega arith)))
+    (parse_long_date-within text)
+
+pub parse_date_end-within : (text : List ℕ) → IfOk (parse_date_end text) IsDate
+unfolding parse_date_end
+parse_date_end-within text =
+    IfOk-if IsDate (length text == 10) (day_spelt text >>= λ day. date_of day 86_399)
+    (parse_long_date text)
+    (IfOk-next IsDate (day_spelt text) _ (λ day. date_of-within day 86_399 (omega arith)))
     (parse_long_date-within text)
 
 -- a number of 32 bits

@@ -67,6 +67,12 @@ unfoldable pub parse_date : List ℕ → Result ℕ DateFault
 parse_date text =
     if length text == 10 then (day_spelt text >>= λ day. date_of day 0) else parse_long_date text
 
+-- the date that the text spells, where a day alone is its last second
+unfoldable pub parse_date_end : List ℕ → Result ℕ DateFault
+parse_date_end text =
+    if length text == 10 then (day_spelt text >>= λ day. date_of day 86_399)
+    else parse_long_date text
+
 -- the day so many days after the first of a month, which comes within so many months
 unfoldable pub day_from_month : ℕ → ℕ → ℕ → ℕ → Day
 day_from_month zero year month days = record { year = year; month = month; day = days + 1 }

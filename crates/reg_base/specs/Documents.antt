@@ -1,10 +1,15 @@
 -- Documents in order of number.
 use Rattle.std.specs.Prelude.{ℕ, Bool, false, if◌then◌else◌, Option, Some, None, List, [], ◌∷◌}
-use Rattle.std.specs.Prelude.{nat_eq, map}
+use Rattle.std.specs.Prelude.{nat_eq, nat_le, ◌≤◌, ◌&&◌, map, filter, length}
 use Rattle.std.specs.Ordering.{nat_cmp, match_ordering}
 use Rattle.std.specs.Cmp.Lexicographic.{pointwise}
+use Rattle.std.specs.List.{All}
 use Rattle.std.specs.List.Sorted.{IsStrictlyIncreasing}
+use Rattle.std.specs.declared.cmp.Ordering.{Ordering}
+use Rattle.reg_base.specs.declared.point.Point.{Point}
 use Rattle.reg_base.specs.declared.records.Document.{Document}
+use Rattle.reg_base.specs.Points.{point_cmp}
+use Rattle.reg_base.specs.Records.{in_order}
 
 -- the document of this number
 abbrev pub document_at : ℕ → List Document → Option Document
@@ -37,3 +42,29 @@ holder_of key (d ∷ ds) = if is_key key d.doc.key then Some d.doc.number else h
 -- the documents stand in order of number, each number once
 abbrev pub AreInOrder : List Document → Type 0
 AreInOrder documents = IsStrictlyIncreasing (map (λ d. d.doc.number) documents)
+
+-- ---- sets
+
+-- no set has more than 5,000 records or entries
+abbrev pub AreShort : {X : Type 0} → List (List X) → Type 0
+AreShort sets = All (λ set. length set ≤ 5_000) sets
+
+-- all sets of a document are short
+pub record HasShortSets (d : Document) : Type 0 where
+  pub records : AreShort d.sets.registers
+  pub entries : AreShort d.sets.ledgers
+
+-- ---- documents in order of time
+
+-- the point at which a document stands
+abbrev pub document_point : Document → Point
+document_point d = record { date = d.doc.date; doc = d.doc.number }
+
+-- documents are in order of their points
+abbrev pub document_cmp : Document → Document → Ordering
+document_cmp d e = point_cmp (document_point d) (document_point e)
+
+-- the documents whose dates are in a range, both ends included, in order of their points
+abbrev pub documents_between : ℕ → ℕ → List Document → List Document
+documents_between from to documents = in_order document_cmp
+    (filter (λ d. nat_le from d.doc.date && nat_le d.doc.date to) documents)

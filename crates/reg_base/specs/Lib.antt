@@ -1,4 +1,5 @@
 pub mod Balances
+pub mod BookedEntries
 pub mod Codes
 pub mod Comments
 pub mod Cuts
@@ -12,3 +13,8 @@ pub mod Results
 pub mod Rights
 pub mod Shares
 pub mod ShortTexts
+pub mod Sums
+pub mod TableLaws
+pub mod Tries
+pub mod Turnovers
+pub mod Units

@@ -1,18 +1,19 @@
 //! Dates to the second, from 2000 to 2099: how they are read and printed.
 ghost use Rattle.std.specs.Prelude.{◌≡◌, ◌++◌, ◌<◌, ◌≤◌, SomeIff, IfOk, OnOk, OnErr, IsTrue};
 ghost use Rattle.std.specs.Prelude.{string_bytes, length};
-ghost use Rattle.reg_base.specs.Dates.{date_of, day_of, parse_long_date, parse_date, date_text};
+ghost use Rattle.reg_base.specs.Dates.{date_of, day_of, parse_long_date, parse_date};
+ghost use Rattle.reg_base.specs.Dates.{parse_date_end};
+ghost use Rattle.reg_base.specs.Dates.{date_text};
 
 use crate::Memory;
-use crate::day::{Day, day_at, day_number, day_spelt, push_day, push_second, second_spelt};
+use crate::day::{
+    Day, FIRST_DAY, calendar_day, day_number, day_spelt, push_day, push_second, second_spelt,
+};
 use std::alloc::Global;
 use std::marker::Model;
 
 /// How many seconds the years 2000 to 2099 have.
 pub const CENTURY_SECONDS: u32 = 3_155_760_000;
-
-// The first day of 2000, counted as the calendar counts, from -9999-01-01.
-const FIRST_DAY: u32 = 4_382_544;
 
 /// A second of the years 2000 to 2099, seen as the seconds since 2000-01-01T00:00:00.
 #[derive(Clone, Copy, Debug, PartialEq, Eq, PartialOrd, Ord)]
@@ -49,6 +50,15 @@ impl Date {
         Date { seconds: 0 }
     }
 
+    /// The last date, 2099-12-31T23:59:59.
+    pub fn last() -> Date
+        ensures { result ≡ 3_155_759_999 }
+    {
+        Date {
+            seconds: CENTURY_SECONDS - 1,
+        }
+    }
+
     /// The date so many seconds after the first one, where it lies in the century.
     pub fn from_seconds(seconds: u32) -> Option<Date>
         ensures { SomeIff result (seconds < 3_155_760_000) seconds }
@@ -75,6 +85,20 @@ impl Date {
         let text = text.as_bytes();
         if text.len() == 10 {
             date_of(day_spelt(text)?, 0)
+        } else {
+            parse_long_date(text)
+        }
+    }
+
+    /// Reads a date as the end of a range: `YYYY-MM-DD` is the day's last second, and the long
+    /// form is its second.
+    #[tactic(auto, unfolding(crate::specs::Dates::parse_date_end))]
+    pub fn parse_end(text: &str) -> Result<Date, DateFault>
+        ensures { result ≡ parse_date_end text.now }
+    {
+        let text = text.as_bytes();
+        if text.len() == 10 {
+            date_of(day_spelt(text)?, 86_399)
         } else {
             parse_long_date(text)
         }
@@ -137,8 +161,9 @@ fn date_of(day: Day, second: u32) -> Result<Date, DateFault>
 }
 
 // The day of the calendar that the date lies in.
+#[tactic(auto, unfolding(crate::specs::Dates::day_of))]
 fn day_of(date: Date) -> Day
     ensures { result ≡ day_of date }
 {
-    day_at(FIRST_DAY + date.seconds() / 86_400)
+    calendar_day(date.seconds() / 86_400)
 }

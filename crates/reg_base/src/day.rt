@@ -1,14 +1,22 @@
 //! Days of the calendar, as dates are spelt and printed.
 ghost use Rattle.std.specs.Prelude.{◌≡◌, ◌+◌, ◌-◌, ◌<◌, ◌≤◌, ◌^◌, ◌++◌, length, string_bytes, IfOk};
 ghost use Rattle.std.specs.Prelude.{OnOk, IfNone, IfSome, true, false};
+ghost use Rattle.std.specs.Int.{IsInRange};
 ghost use Rattle.reg_base.specs.Days.{IsDayNumber, IsInCentury};
 ghost use Rattle.reg_base.specs.Dates.{has_day, number_between, day_spelt, second_spelt, day_text};
 ghost use Rattle.reg_base.specs.Dates.{second_text};
+ghost use Rattle.reg_base.specs.Units.{calendar_day};
 
 use crate::DateFault;
 use crate::sums::push_digits;
 use jiff_core::civil;
 use std::alloc::AllocError;
+
+/// How many days the years 2000 to 2099 have.
+pub const CENTURY_DAYS: u32 = 36_525;
+
+/// The first day of 2000, counted as the calendar counts, from -9999-01-01.
+pub const FIRST_DAY: u32 = 4_382_544;
 
 /// A year, a month and a day, in the calendar or not.
 #[derive(Clone, Copy)]
@@ -127,4 +135,16 @@ pub fn day_at(number: u32) -> Day
         month: date.month,
         day: date.day,
     }
+}
+
+/// The day of the calendar so many days after 2000-01-01.
+pub fn calendar_day(day: u32) -> Day
+    requires { day < 36_525 }
+    ensures value { result ≡ calendar_day day }
+    ensures number { IsDayNumber result (4_382_544 + day) }
+    ensures century { IsInCentury result }
+    ensures month { IsInRange 1 12 result.month }
+    ensures day { IsInRange 1 31 result.day }
+{
+    day_at(FIRST_DAY + day)
 }

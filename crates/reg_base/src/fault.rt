@@ -1,5 +1,7 @@
-//! Why an entry is refused, and why a document is not posted.
+//! Why an entry is refused, why a document is not posted, and why a table is not made.
 use crate::code::Code;
+use crate::date::Date;
+use crate::name::Name;
 
 /// Why an entry of a ledger is refused, the debit being asked before the credit.
 #[derive(Clone, Copy, Debug, PartialEq, Eq)]
@@ -50,4 +52,16 @@ pub enum PostFault {
         rule: u32,
         line: u32,
     },
+}
+
+/// Why a table is refused: the names that it asks by are looked at first, then its dates, then its
+/// rows.
+#[derive(Clone, Copy, Debug, PartialEq, Eq)]
+pub enum TableFault {
+    /// It would begin behind its end.
+    BadRange { from: Date, to: Date },
+    /// It has more rows than a table may have: more than `limit`.
+    TooManyRows { limit: u32 },
+    /// The register has no dimension of this name, or the name is given twice.
+    UnknownField { name: Name },
 }

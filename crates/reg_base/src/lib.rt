@@ -1,17 +1,19 @@
 //! Plain types of registers: texts, codes, comments, dates, points, documents, records and why they
-//! are refused, and what a balance is.
+//! are refused, and what a balance and a table are.
 //!
 //! Means: a text is its bytes, a date its seconds, a list its elements; `records_of` in
 //! `specs/Records.antt` gives a register's records, and `balance_of` in `specs/Balances.antt`
-//! sums them; `specs/Documents.antt` says what it means to put, replace and remove a document.
-//! Contracts of all crates above speak of these.
+//! sums them; `specs/Documents.antt` says what it means to put, replace and remove a document;
+//! `specs/Units.antt` cuts time into units, and `turnovers_of` and `balance_and_turnovers_of` in
+//! `specs/Turnovers.antt` are the tables over them. Contracts of all crates above speak of these.
 //!
 //! Stands on: `jiff_core` for the calendar.
 //!
 //! Promises: each `parse` accepts exactly its spelling, and those of numbers, dates, points and
 //! cuts name the first fault; the four are printed exactly as `specs/` says, and read back; orders
-//! are total and tell all apart; a balance does not depend on the order of the records; a share is
-//! the nearest whole number.
+//! are total and tell all apart; a balance or a table does not depend on the order of the records;
+//! a unit starts at the greatest start that is not above a date; rows close, and those of smaller
+//! units add up to those of the whole range; a share is the nearest whole number.
 //!
 //! Leaves open: how much memory a text takes, and when memory is refused.
 #![tactic(auto)]
@@ -36,14 +38,19 @@ mod scale;
 mod shares;
 mod short_text;
 mod sums;
+mod table_laws;
+mod tables;
 mod text;
+mod tried;
+mod unit_laws;
+mod units;
 mod value;
 
 pub use code::{Code, is_code_byte};
 pub use comment::Comment;
 pub use cut::{Cut, inside};
 pub use date::{Date, DateFault};
-pub use fault::{EntryFault, PostFault};
+pub use fault::{EntryFault, PostFault, TableFault};
 pub use line::Line;
 pub use list::List;
 pub use memory::Memory;
@@ -65,5 +72,14 @@ pub use right::Right;
 pub use scale::Scale;
 pub use shares::share;
 pub use sums::{print_sum, sum_string};
+pub use table_laws::{
+    rows_open_and_close, rows_stand_in_order, tables_take_records_in_any_order, turnovers_add_up,
+};
+pub use tables::{
+    AccountRow, AskedList, Method, PairRow, Periodicity, ROW_LIMIT, Range, Row, Unit,
+};
 pub use text::{Text, join_texts, string_of};
+pub use tried::Fault;
+pub use unit_laws::{unit_starts_keep_order, units_are_exact};
+pub use units::{next_unit, unit_start};
 pub use value::{Cell, Value};

@@ -1,7 +1,7 @@
 //! Laws: what is printed is read back to the same value, and what is read is in range.
 ghost use Rattle.std.specs.Prelude.{◌≡◌, ℕ, ◌<◌, ◌≤◌, ℤ, List, unsigned_abs, Ok, IfOk};
 ghost use Rattle.reg_base.specs.Numbers.{largest_units, parse_num, sum_text};
-ghost use Rattle.reg_base.specs.Dates.{parse_date, date_text};
+ghost use Rattle.reg_base.specs.Dates.{parse_date, parse_date_end, date_text};
 ghost use Rattle.reg_base.specs.declared.point.Point.{Point};
 ghost use Rattle.reg_base.specs.declared.cut.Cut.{Cut};
 ghost use Rattle.reg_base.specs.Points.{IsPoint, parse_point, point_text};
@@ -13,9 +13,10 @@ pub fn numbers_read_back()
         → parse_num (sum_text units scale) scale ≡ Ok (record { units = units }) }
 {}
 
-/// A law: the text of a date spells the date.
+/// A law: the text of a date spells the date, as the end of a range too.
 pub fn dates_read_back()
-    ensures { (date : ℕ) → date < 3_155_760_000 → parse_date (date_text date) ≡ Ok date }
+    ensures dates { (date : ℕ) → date < 3_155_760_000 → parse_date (date_text date) ≡ Ok date }
+    ensures ends { (date : ℕ) → date < 3_155_760_000 → parse_date_end (date_text date) ≡ Ok date }
 {}
 
 /// A law: the text of a point spells the point.
@@ -34,6 +35,7 @@ pub fn what_is_read_is_in_range()
     ensures numbers { (text : List ℕ) (scale : ℕ) →
         IfOk (parse_num text scale) (λ n. unsigned_abs n.units ≤ largest_units) }
     ensures dates { (text : List ℕ) → IfOk (parse_date text) (λ d. d < 3_155_760_000) }
+    ensures ends { (text : List ℕ) → IfOk (parse_date_end text) (λ d. d < 3_155_760_000) }
     ensures points { (text : List ℕ) → IfOk (parse_point text) IsPoint }
     ensures cuts { (text : List ℕ) → IfOk (parse_cut text) IsCut }
 {}

@@ -19,7 +19,8 @@ use Rattle.reg_base.specs.Balances.{sum_rows}
 use Rattle.reg_base.proofs.ForAbove.{values_cmp_total, values_cmp_exact, total-push}
 use Rattle.row_sums.specs.Sums.{groups_in, IsRising, is_element, sum_at, AddsUp}
 use Rattle.row_sums.specs.Rows.{sums_at, with_row}
-use Rattle.row_sums.proofs.RisingLemmas.{or-false, rising-put_once, element-put_once, element-filter}
+use Rattle.row_sums.proofs.RisingLemmas.{or-false, rising-put_once, element-put_once}
+use Rattle.row_sums.proofs.RisingLemmas.{element-filter}
 use Rattle.row_sums.proofs.RisingLemmas.{rising-same}
 use Rattle.row_sums.proofs.RowLemmas.{row_by, groups_in-row_by, filter-row_by, sums_at-row_by}
 use Rattle.row_sums.proofs.RowLemmas.{with_row-groups, set_row, set_row-with_row}

@@ -1,6 +1,8 @@
 -- How large sums can be.
-use Rattle.std.proofs.Common.{◌≡◌, ℕ, ◌+◌, ◌<◌, ◌≤◌, ◌*◌, ◌^◌, ℤ, pos, ◌+ℤ◌, Bool, true, false, cond}
-use Rattle.std.proofs.Common.{Result, Ok, Err, IfOk, Option, List, [], ◌∷◌, map, length, sym, subst, arith}
+use Rattle.std.proofs.Common.{◌≡◌, ℕ, ◌+◌, ◌<◌, ◌≤◌, ◌*◌, ◌^◌, ℤ}
+use Rattle.std.proofs.Common.{pos, ◌+ℤ◌, Bool, true, false, cond}
+use Rattle.std.proofs.Common.{Result, Ok, Err, IfOk, Option, List, []}
+use Rattle.std.proofs.Common.{◌∷◌, map, length, sym, subst, arith}
 use Rattle.std.specs.List.{filter, range_with_len}
 use Rattle.std.specs.Ordering.{match_ordering, is_eq}
 use Rattle.std.specs.declared.cmp.Ordering.{Ordering}

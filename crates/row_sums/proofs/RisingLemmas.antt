@@ -103,7 +103,8 @@ module _ {X : Type 0} {R : X → X → Ordering} (o : IsTotalOrder R)
       → is_element R k xs ≡ false
   below-absent k [] all = refl
   below-absent k (x ∷ xs) all =
-      ap (λ t. t || is_element R k xs) (sym (eq-flip k x) ∙ ap is_eq all.0) ∙ below-absent k xs all.1
+      ap (λ t. t || is_element R k xs) (sym (eq-flip k x) ∙ ap is_eq all.0)
+      ∙ below-absent k xs all.1
 
   -- what is among the elements that pass a test
   pub element-filter : (p : X → Bool) (k : X) (xs : List X)
@@ -141,7 +142,9 @@ module _ {X : Type 0} {R : X → X → Ordering} (o : IsTotalOrder R)
       at Less p = other (ap is_eq p)
         where
           other : is_eq (R x k) ≡ false → is_element R k xs ≡ is_element R k ys
-          other q = ap (λ b. b || is_element R k xs) (sym q) ∙ e ∙ ap (λ b. b || is_element R k ys) q
+          other q =
+              ap (λ b. b || is_element R k xs) (sym q) ∙ e
+              ∙ ap (λ b. b || is_element R k ys) q
       at Greater p =
           ap (λ b. b || is_element R k xs) (sym (ap is_eq p)) ∙ e
           ∙ ap (λ b. b || is_element R k ys) (ap is_eq p)

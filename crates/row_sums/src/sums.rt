@@ -120,7 +120,8 @@ fn map_of(alloc: Global, rows: List<SumRow>) -> Result<BTreeMap<Vec<Value>, Vec<
 
 // Puts a row into the map.
 fn put_row(sums: &mut BTreeMap<Vec<Value>, Vec<i128>>, row: SumRow) -> Result<(), Memory>
-    ensures { IfOk result (λ _. rows_of sums.new.entries ≡ with_row row (rows_of sums.old.entries)) }
+    ensures { IfOk result (λ _.
+        rows_of sums.new.entries ≡ with_row row (rows_of sums.old.entries)) }
 {
     let SumRow {
         group,

@@ -12,7 +12,7 @@ fn walked(store: &Store) -> usize
     ensures { result ≡ length store.now.documents }
 {
     let mut count = 0;
-    'documents: for _document in store.documents() {
+    'documents: for _document in store.walk() {
         count += 1;
     }
     count
@@ -181,7 +181,7 @@ fn documents_are_walked_in_order(rt: HostRuntime) -> Result<(), Memory> {
         let done = change(rt.alloc(), &mut store, 300 - number, Some("a"), true);
         expect(&rt, &number, done);
     }
-    let first = store.documents().next().map(|document| document.doc.number);
+    let first = store.walk().next().map(|document| document.doc.number);
     let is_right = first == Some(1) && holder(&store, None, "a") == Some(1);
     expect(
         &rt,

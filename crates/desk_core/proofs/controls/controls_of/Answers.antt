@@ -11,7 +11,8 @@ loop-place-preserved c =
     let i : ℕ = c.loop-place.place - 1 in
     let s = c.index-statements-place.result in
     let none : controlled_by s.act ≡ None =
-    ap (λ x. controlled_by x.act) c.index-statements-place.is ∙ sym c.controlled_by.ensures ∙ c.in_default.is in
+    ap (λ x. controlled_by x.act) c.index-statements-place.is ∙ sym c.controlled_by.ensures
+    ∙ c.in_default.is in
     let back : c.loop-place.place ≡ i + 1 = omega (arith, c.loop-place-test.true) in
     c.loop-place.invariant
     ∙ ap (λ n. controls_in (drop n statements)) back

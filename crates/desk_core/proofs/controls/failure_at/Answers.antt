@@ -23,7 +23,7 @@ returns c =
     let register = c.in-Some.register.now in
     let resource = c.in-Some-get.resource.now in
     let rows : List SumRow = c.as_slice.result.now in
-    let all : List Booked = records_of p (with_document c.args.after.now c.documents.result) in
+    let all : List Booked = records_of p (with_document c.args.after.now c.walk.result) in
     let made : rows ≡ sum_rows 1 None (changes_of q (own_set p before) (own_set p after)) =
     c.as_slice.ensures ∙ c.in_ok-changes.ensures
     ∙ (λ i. sum_rows 1 None
@@ -37,7 +37,7 @@ returns c =
     subst P
     ((λ i. first_below register resource (is_q i) (own_records (is_p i) before)
     (own_records (is_p i) after)
-    (records_of (is_p i) (with_document c.args.after.now (c.documents.ensures.walk i)))
+    (records_of (is_p i) (with_document c.args.after.now (c.walk.ensures.walk i)))
     (groups_in rows))
     ∙ control-failure c.args.config.now.registers c.args.control
     (with_document c.args.after.now c.args.store.now.documents) before after register resource

@@ -1,6 +1,6 @@
 use Rattle.std.proofs.Common.{Err, ap, sym, subst, ◌∙◌}
 use Rattle.post_model.specs.Yields.{yield_of}
-use Rattle.post_rules.specs.Tries.{Tries}
+use Rattle.reg_base.specs.Tries.{Tries}
 use Rattle.desk_words.specs.declared.reply.Refusal.TheVariants.{Rule}
 use Rattle.desk_model.specs.DocumentSets.{with_yield}
 use Rattle.desk_plans.proofs.documents.document_by_rules.Goals as goal

@@ -4,7 +4,7 @@ use Rattle.post_model.specs.Yields.{yield_of}
 use Rattle.desk_model.specs.State.{Setting}
 use Rattle.desk_model.specs.DocumentSets.{with_yield, document_from}
 use Rattle.desk_plans.specs.Bounds.{IsWithinBounds, GivesNumbers}
-use Rattle.desk_plans.specs.Tries.{Tries}
+use Rattle.reg_base.specs.Tries.{Tries}
 use Rattle.desk_plans.proofs.BoundLemmas.{IfOk-Tries, by_hand-bounds, with_yield-bounds}
 use Rattle.desk_plans.proofs.BoundLemmas.{kept-bounds, none-bounds}
 use Rattle.desk_plans.proofs.documents.document_from.Goals as goal

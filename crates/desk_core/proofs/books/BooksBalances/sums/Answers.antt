@@ -16,8 +16,8 @@ returns c =
     let is = c.new-query.ensures in
     let place : q.register ≡ c.args.register = ap (λ (x : Query). x.register) is
     ∙ c.from-register.ensures in
-    let documents : c.documents.result ≡ c.args.self.now.documents =
-    c.documents.ensures.walk ∙ ap (λ (v : BooksView). v.documents) c.self.view_is in
+    let documents : c.walk.result ≡ c.args.self.now.documents =
+    c.walk.ensures.walk ∙ ap (λ (v : BooksView). v.documents) c.self.view_is in
     let P : List SumRow → Type 0 = λ xs. IfOk c.balance_rows.result (λ rows. rows ≡ xs) in
     subst P
     ((λ i. sum_rows q.resources (option_copied q.by)

@@ -26,7 +26,7 @@ returns-clause-value c =
     (unwrap_or c.args.balance.now.cut Now) c.self.inside.store.documents =
     c.in_ok-rows.ensures
     ∙ (λ i. shown (length (c.as_slice-resources.ensures i)) (c.unwrap_or-cut.ensures i)
-    (c.documents.ensures.walk i)) in
+    (c.walk.ensures.walk i)) in
     let scales : c.in_ok-scales.scales ≡ map (λ (r : Resource). r.scale) register.resources =
     c.in_ok-scales.ensures ∙ ap (map (λ (r : Resource). r.scale)) c.as_slice-resources.ensures in
     let answered = question_answer-balance

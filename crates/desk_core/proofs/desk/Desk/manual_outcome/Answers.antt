@@ -5,7 +5,7 @@ use Rattle.desk_model.specs.Manuals.{plan_manual}
 use Rattle.desk_model.specs.Desk.{meaning_at, command_at, tests_of}
 use Rattle.desk_core.specs.DeskViews.{DeskView}
 use Rattle.desk_plans.specs.Sights.{sight_view}
-use Rattle.desk_plans.specs.Tries.{Tries}
+use Rattle.reg_base.specs.Tries.{Tries}
 use Rattle.desk_core.proofs.DeedLemmas.{drawn-new, change-comes}
 use Rattle.desk_core.proofs.desk.Desk.manual_outcome.Goals as goal
 

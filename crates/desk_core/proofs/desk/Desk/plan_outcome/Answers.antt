@@ -12,7 +12,7 @@ use Rattle.desk_model.specs.Limits.{records_in}
 use Rattle.desk_model.specs.DocumentSets.{document_from}
 use Rattle.desk_model.specs.Serial.{made_at}
 use Rattle.desk_plans.specs.Sights.{sight_view}
-use Rattle.desk_plans.specs.Tries.{Tries}
+use Rattle.reg_base.specs.Tries.{Tries}
 use Rattle.desk_core.specs.declared.outcome.Outcome.{Outcome}
 use Rattle.desk_core.specs.DeskViews.{DeskView}
 use Rattle.desk_core.specs.Invariants.{AreKept}

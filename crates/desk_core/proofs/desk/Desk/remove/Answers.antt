@@ -12,7 +12,8 @@ invariant_of-self-2 c =
     let counted = c.records_without-records.ensures.value
     ∙ ap (λ (v : DeskView). records_in (without_document c.args.number v.desk.serial.documents))
     (sym c.self.view_is) in
-    IsKept-staged c.self.inside.config c.self.inside.rules store c.stage_removal.new.self c.keep.new.self
+    IsKept-staged c.self.inside.config c.self.inside.rules store c.stage_removal.new.self
+    c.keep.new.self
     (Removal c.args.number) c.self.inside.top c.self.inside.records c.self.invariant
     c.in_ok-stage_removal.ensures.ok c.keep.ensures c.self.inside.top
     c.records_without-records.result

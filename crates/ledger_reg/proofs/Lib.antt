@@ -1,0 +1,5 @@
+mod MapLemmas
+mod PairLemmas
+mod RowLemmas
+mod SizeLemmas
+mod WalkLemmas

@@ -1,0 +1,4 @@
+pub mod Sizes
+pub mod Walks
+pub mod Pairs
+pub mod RowLists

@@ -1,0 +1,5 @@
+mod AddLemmas
+pub mod ForAbove
+mod KeyOrder
+mod ReachLemmas
+mod RowLemmas

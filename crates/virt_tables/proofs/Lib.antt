@@ -1,0 +1,6 @@
+mod ColumnLemmas
+mod CutLemmas
+pub mod ForAbove
+mod LimitLemmas
+mod ListLemmas
+mod MoveLemmas

@@ -1,0 +1,8 @@
+use Rattle.std.proofs.Common.{map, take}
+use Rattle.row_sums.specs.Sums.{booked}
+use Rattle.virt_tables.specs.Cuts.{AddsFor}
+use Rattle.virt_tables.proofs.cuts.add_set.Given as goal
+
+abbrev pub invariant-loop-rec : goal.invariant-loop-rec
+invariant-loop-rec l =
+    AddsFor l.query (map (booked l.number) (take l.rec-index l.set)) l.initial.sums l.sums

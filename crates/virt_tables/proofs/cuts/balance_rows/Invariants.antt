@@ -1,0 +1,10 @@
+-- The records of the documents so far are added.
+use Rattle.std.proofs.Common.{[], length, take}
+use Rattle.std.specs.List.{flat_map}
+use Rattle.reg_base.specs.Records.{booked_by}
+use Rattle.virt_tables.specs.Cuts.{AddsFor}
+use Rattle.virt_tables.proofs.cuts.balance_rows.Given as goal
+
+abbrev pub invariant-loop-document : goal.invariant-loop-document
+invariant-loop-document l = AddsFor l.query
+    (flat_map (booked_by l.query.register) (take (length l.yielded) l.fn.documents)) [] l.sums
