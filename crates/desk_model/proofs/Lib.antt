@@ -15,3 +15,5 @@ pub mod WorkedRows
 pub mod ReplayLemmas
 pub mod ScaleLemmas
 pub mod StepCases
+pub mod TableLemmas
+pub mod TableScales

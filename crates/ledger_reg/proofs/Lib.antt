@@ -1,5 +1,6 @@
 mod MapLemmas
 mod PairLemmas
 mod RowLemmas
+mod SideLemmas
 mod SizeLemmas
 mod WalkLemmas

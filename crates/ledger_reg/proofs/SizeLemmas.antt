@@ -35,7 +35,7 @@ size-fits (negsuc n) h = omega (arith, ints, h)
 
 -- an amount of 64 bits and a sum of 128, as the code adds them
 module _ (a f s at : ℤ) (is : f ≡ to_z w64 (of_z w64 a)) (same : s ≡ at) (fits : SFits w64 a)
-    (small : size_of at ≤ 2 ^ 63 * 2 ^ 46) where
+    (small : size_of at ≤ 2 ^ 64 * 2 ^ 47) where
   added : to_z w128 (of_z w128 f) +ℤ to_z w128 (of_z w128 s) ≡ a +ℤ at
   added =
       let f-is : f ≡ a = is ∙ to_z-of_z w64 a fits in

@@ -1,4 +1,5 @@
 pub mod Sizes
 pub mod Walks
 pub mod Pairs
+pub mod Sides
 pub mod RowLists

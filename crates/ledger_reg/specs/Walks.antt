@@ -25,4 +25,4 @@ HasShortLedgers d = All (λ set. length set ≤ 5_000) d.sets.ledgers
 pub record Adds {B S : Type 0} (holds : List B → S → Type 0) (size : S → ℕ) (more : List B)
     (old new : S) : Type 0 where
   pub sums : (bs : List B) → holds bs old → holds (bs ++ more) new
-  pub growth : size new ≤ size old + 2 ^ 63 * length more
+  pub growth : size new ≤ size old + 2 ^ 64 * length more

@@ -15,6 +15,7 @@
 mod ask;
 mod pairs;
 mod rows;
+mod sides;
 mod walk;
 
 pub use ask::AccountAsk;

@@ -78,7 +78,7 @@ impl PairSums {
         credit: Option<Code>,
         amount: i64,
     ) -> Result<(), Memory>
-        requires { pairs_size self.old ≤ 2 ^ 63 * 2 ^ 46 }
+        requires { pairs_size self.old ≤ 2 ^ 64 * 2 ^ 46 }
         ensures { IfOk result (λ _. RaisesPair (record { debit = debit; credit = credit }) amount
             self.old self.new) }
     {

@@ -5,7 +5,10 @@ ghost use Rattle.reg_base.specs.Results.{unless};
 ghost use Rattle.reg_base.specs.declared.fault.TableFault.TheVariants.{BadRange};
 ghost use Rattle.ledger_reg.specs.RowLists.{Puts};
 
-use reg_base::{Fault, List, ROW_LIMIT, Range, TableFault};
+use reg_base::{Fault, List, Range, TableFault};
+
+// The most rows that a table may have.
+const ROW_LIMIT: u32 = 100_000;
 
 /// Puts a row behind the others, or says that there are too many.
 pub(crate) fn put_row<R: Drop>(rows: &mut List<R>, row: R) -> Result<(), Fault<TableFault>>

@@ -19,7 +19,7 @@ pub(crate) trait Gathers {
 
     /// Adds an entry.
     fn add(&mut self, alloc: Global, posting: &Posting) -> Result<(), Memory>
-        requires { size self.old ≤ 2 ^ 63 * 2 ^ 46 }
+        requires { size self.old ≤ 2 ^ 64 * 2 ^ 46 }
         ensures { (number : ℕ) → IfOk result (λ _.
             Adds holds size (booked number posting.now ∷ []) self.old self.new) };
 }
@@ -77,7 +77,7 @@ fn add_set<S: Gathers>(
     number: u32,
     span: &Span,
 ) -> Result<(), Memory>
-    requires size { S.size sums.old ≤ 2 ^ 63 * 2 ^ 45 }
+    requires size { S.size sums.old ≤ 2 ^ 64 * 2 ^ 45 }
     requires short { length set.now ≤ 5_000 }
     ensures { IfOk result (λ _. Adds S.holds S.size
         (filter (counts_in span.now) (map (booked number) set.now)) sums.old sums.new) }
@@ -96,7 +96,7 @@ fn add_counted<S: Gathers>(
     number: u32,
     span: &Span,
 ) -> Result<(), Memory>
-    requires { S.size sums.old ≤ 2 ^ 63 * 2 ^ 46 }
+    requires { S.size sums.old ≤ 2 ^ 64 * 2 ^ 46 }
     ensures { IfOk result (λ _. Adds S.holds S.size
         (filter (counts_in span.now) (booked number posting.now ∷ [])) sums.old sums.new) }
 {

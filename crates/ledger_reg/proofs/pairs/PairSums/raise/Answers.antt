@@ -42,7 +42,7 @@ returns c =
     let key : PairKey = record { debit = c.args.debit; credit = c.args.credit } in
     let es : List (PairKey × ℤ) = c.args.self.now.sums.entries in
     let at : ℤ = sum_at (pair_in key) (pairs_in es) in
-    let small : size_of at ≤ 2 ^ 63 * 2 ^ 46 =
+    let small : size_of at ≤ 2 ^ 64 * 2 ^ 47 =
     omega (arith, sum_at-size (pair_in key) es, c.requires) in
     let value = raised-value c.args.amount c.from.result c.sum_of.result at c.from.ensures
     c.sum_of.ensures c.ranges.amount small in
