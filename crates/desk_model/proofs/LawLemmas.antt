@@ -9,6 +9,7 @@ use Rattle.desk_model.specs.State.{Desk, Command}
 use Rattle.desk_model.specs.Plans.{Meaning}
 use Rattle.desk_model.specs.Effects.{Effect}
 use Rattle.desk_model.specs.Stops.{Stop}
+use Rattle.desk_model.specs.Clerks.{is_batch}
 use Rattle.desk_model.specs.Desk.{meaning_at, command_at, effect_at, event_of, step}
 use Rattle.desk_model.specs.Answers.{is_blank_line, refusal_event, event_of_reading, line_event}
 use Rattle.desk_model.specs.Answers.{line_desk}

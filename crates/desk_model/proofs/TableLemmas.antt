@@ -1,7 +1,7 @@
 -- Accepted tables are those that were asked for.
 use Rattle.std.proofs.Common.{◌≡◌, ℕ, ◌≤◌, Bool, true, false, nat_le, cond, Option, Some, None}
 use Rattle.std.proofs.Common.{unwrap_or, List, map, length, slice_get, Result, Ok, Err, refl, ap, ◌∙◌}
-use Rattle.std.proofs.Common.{sym, option_map, arith, ◌×◌}
+use Rattle.std.proofs.Common.{sym, option_map, arith}
 use Rattle.reg_base.specs.declared.cut.Cut.TheVariants.{Now}
 use Rattle.reg_base.specs.declared.line.Line.{Line}
 use Rattle.reg_base.specs.declared.fault.TableFault.{TableFault}
@@ -73,7 +73,7 @@ record Shows {R : Type 0} (shown : List R → Answer) (rows : List R) (answer : 
   answer_is : answer ≡ shown rows
 
 short-le : (n : ℕ) → nat_le n row_limit ≡ true → n ≤ row_limit
-short-le n h = omega (arith, h)
+short-le n h = grind (arith, h)
 
 limited-shows : {R : Type 0} (shown : List R → Answer) (rows : List R) (answer : Answer)
     → answering shown (limited_rows rows) ≡ Ok answer → Shows shown rows answer

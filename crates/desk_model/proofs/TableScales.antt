@@ -2,6 +2,7 @@
 use Rattle.std.proofs.Common.{◌≡◌, ℕ, suc, ℤ, pos, Bool, true, false, nat_le, cond, Option, Some}
 use Rattle.std.proofs.Common.{None, option_map, unwrap_or, slice_get, List, [], ◌∷◌, map, length}
 use Rattle.std.proofs.Common.{Result, Ok, Err, IfErr, IfOk, refl, ap, subst, ◌∙◌, sym, arith}
+use Rattle.std.proofs.Common.{All, get_or}
 use Rattle.std.specs.List.{find}
 use Rattle.std.specs.Str.{bytes_eq}
 use Rattle.std.proofs.lemmas.List.{length-map}
@@ -12,6 +13,7 @@ use Rattle.reg_base.specs.declared.records.Rec.{Rec}
 use Rattle.reg_base.specs.declared.records.SumRow.{SumRow}
 use Rattle.reg_base.specs.declared.cut.Cut.{Cut}
 use Rattle.reg_base.specs.declared.cut.Cut.TheVariants.{Now}
+use Rattle.reg_base.specs.declared.tables.AskedList.{AskedList}
 use Rattle.reg_base.specs.declared.tables.Method.{Method}
 use Rattle.reg_base.specs.declared.tables.Method.TheVariants.{Movements}
 use Rattle.reg_base.specs.declared.tables.Periodicity.{Periodicity}
@@ -21,7 +23,7 @@ use Rattle.reg_base.specs.declared.fault.TableFault.{TableFault}
 use Rattle.reg_base.specs.declared.fault.TableFault.TheVariants.{BadRange, TooManyRows, UnknownField}
 use Rattle.reg_base.specs.Documents.{document_at}
 use Rattle.reg_base.specs.Results.{◌>>=◌, unless, some_or, none_or}
-use Rattle.reg_base.specs.Records.{Booked, amount_at, records_within}
+use Rattle.reg_base.specs.Records.{Booked, amount_at, records_within, records_of, chosen_records}
 use Rattle.reg_base.specs.BookedEntries.{BookedEntry}
 use Rattle.reg_base.specs.Balances.{sum_rows, row_of, groups_of, is_shown, total}
 use Rattle.reg_base.specs.Sums.{sum_over, in_order_once, plus_each}
@@ -35,7 +37,7 @@ use Rattle.cfg_model.specs.declared.register.Dimension.{Dimension}
 use Rattle.cfg_model.specs.declared.register.Register.{Register}
 use Rattle.cfg_model.specs.declared.register.Resource.{Resource}
 use Rattle.cfg_model.specs.Places.{register_place, ledger_place}
-use Rattle.cfg_model.specs.Asks.{wrong_name, group_places}
+use Rattle.cfg_model.specs.Asks.{wrong_name, filter_with, group_places}
 use Rattle.desk_words.specs.declared.request.FilterText.{FilterText}
 use Rattle.desk_words.specs.declared.request.Balance.{Balance as BalanceRequest}
 use Rattle.desk_words.specs.declared.request.DocQuestion.{DocQuestion as DocRequest}
@@ -46,7 +48,6 @@ use Rattle.desk_words.specs.declared.tables.AccountBalance.{AccountBalance as Ac
 use Rattle.desk_words.specs.declared.tables.AccountTurnovers.{AccountTurnovers as AccountRequest}
 use Rattle.desk_words.specs.declared.tables.DrCr.{DrCr as PairsRequest}
 use Rattle.desk_words.specs.declared.tables.DocumentsQuestion.{DocumentsQuestion}
-use Rattle.desk_words.specs.declared.row_values.RegisterTable.TheVariants.{Both as BothTable}
 use Rattle.desk_words.specs.declared.reply.Answer.{Answer}
 use Rattle.desk_words.specs.declared.reply.Answer.TheVariants.{Balance as BalanceAnswer, Shown}
 use Rattle.desk_words.specs.declared.reply.Answer.TheVariants.{Turnovers as TurnoversAnswer}
@@ -59,7 +60,7 @@ use Rattle.desk_words.specs.declared.reply.Field.TheVariants.{Register as Regist
 use Rattle.desk_words.specs.declared.reply.Field.TheVariants.{Ledger as LedgerField}
 use Rattle.desk_words.specs.declared.reply.Field.TheVariants.{Account as AccountField}
 use Rattle.desk_words.specs.ReplyTexts.{AnswerHasScales, RefusalHasScales}
-use Rattle.desk_words.specs.RowTexts.{HasNumbers, turnovers_table}
+use Rattle.desk_words.specs.RowTexts.{HasNumbers, HasBoth, turnovers_table}
 use Rattle.desk_model.specs.State.{State}
 use Rattle.desk_model.specs.Effects.{Effect}
 use Rattle.desk_model.specs.Plans.{Question}
@@ -154,11 +155,17 @@ module _ (config : Config) (state : State) (asked : AskedRegister)
       (λ place. IfOk-last Good (some_or (slice_get config.registers place) _) _
       (λ register. IfOk-last Good (unless (has_table register) _) _
       (λ u. IfOk-last Good (asked_lists register asked.filter) _
-      (λ lists. or_refused-good (named_table register lists asked.group _)
+      (λ lists. or_refused-good (named_table register lists asked.group
+      (λ group. table register group (found place register lists)))
       (IfOk-last AnswerHasScales
       (none_or (option_map UnknownField (wrong_name register lists asked.group))) _
-      (λ known. fine register (group_places register asked.group) _))))))
+      (λ known. fine register (group_places register asked.group)
+      (found place register lists)))))))
     where
+      found : ℕ → Register → List AskedList → List Booked
+      found place register lists =
+          chosen_records (filter_with register lists) (records_of place state.documents)
+
       Good : Question → Type 0
       Good q = IsGood (answer_to state.documents q)
 
@@ -178,6 +185,10 @@ module _ (config : Config) (state : State) (asked : AskedRegister)
   about-fine : AreFine (question_effect state (question_about config asked has_table table))
   about-fine = question-fine state (question_about config asked has_table table) about-good
       about-plainly
+
+-- what holds of everything holds of each element
+always : {X : Type 0} (P : X → Type 0) → ((x : X) → P x) → (xs : List X) → All P xs
+always P h xs = λ k d below. h (get_or xs k d)
 
 -- as many scales as resources
 scales-length : (register : Register) → length register.resources ≡ length (scales_of register)
@@ -227,10 +238,10 @@ turnovers-scales range register group records =
     (length (scales_of register)) in
     ranged-fine range (λ rows. TurnoversAnswer register.balance rows (scales_of register))
     (turnover_rows register.balance n group range.by moved)
-    (All-filter has_movement P (map row keys) (All-map P row keys
-    (λ k d below. subst (λ m. HasNumbers (turnovers_table register.balance) m _)
+    (All-filter has_movement P (map row keys) (All-map P row keys (always (λ key. P (row key))
+    (λ key. subst (λ m. HasNumbers (turnovers_table register.balance) m (row key))
     (scales-length register)
-    (turnover-numbers register.balance n group range.by moved _))))
+    (turnover-numbers register.balance n group range.by moved key)) keys)))
 
 plus_each-length : (xs ys : List ℤ) → length xs ≡ length ys → length (plus_each xs ys) ≡ length xs
 plus_each-length [] ys h = refl
@@ -238,7 +249,7 @@ plus_each-length (x ∷ xs) [] h = absurd (omega (arith, h))
 plus_each-length (x ∷ xs) (y ∷ ys) h = ap suc (plus_each-length xs ys (omega (arith, h)))
 
 both-numbers : (n : ℕ) (group : Option (List ℕ)) (range : Range) (records : List Booked)
-    (key : RowKey) → HasNumbers BothTable n (both_row n group range records key)
+    (key : RowKey) → HasBoth n (both_row n group range records key)
 both-numbers n group range records key = record {
   opening = opening;
   receipt = sums_where-length n (is_of group range.by key) receipt_at moved;
@@ -265,12 +276,12 @@ both-scales method range register group records =
     let n = length register.resources in
     let keys = both_keys group range method records in
     let row = both_row n group range records in
-    let P : Row → Type 0 = HasNumbers BothTable (length (scales_of register)) in
+    let P : Row → Type 0 = HasBoth (length (scales_of register)) in
     ranged-fine range (λ rows. BothAnswer rows (scales_of register))
     (both_rows n group range method records)
     (All-filter (stands (edge_units method range)) P (map row keys) (All-map P row keys
-    (λ k d below. subst (λ m. HasNumbers BothTable m _) (scales-length register)
-    (both-numbers n group range records _))))
+    (always (λ key. P (row key)) (λ key. subst (λ m. HasBoth m (row key))
+    (scales-length register) (both-numbers n group range records key)) keys)))
 
 -- ---- tables of ledgers
 
@@ -307,6 +318,7 @@ module _ (config : Config) (state : State) (ledger : List ℕ) (account : Option
 
 pub doc-fine : (config : Config) (state : State) (q : DocRequest)
     → AreFine (question_effect state (question_doc config q))
+unfolding answer_to
 doc-fine config state q = question-fine state (question_doc config q) good tt
   where
     at : (found : Option Document) → IsGood (some_or found UnknownDoc
@@ -315,7 +327,6 @@ doc-fine config state q = question-fine state (question_doc config q) good tt
     at None = record { answer = tt; refusal = tt }
 
     good : IfOk (question_doc config q) (λ a. IsGood (answer_to state.documents a))
-    unfolding answer_to
     good = at (document_at q.doc state.documents)
 
 pub documents-fine : (config : Config) (state : State) (q : DocumentsQuestion)

@@ -4,7 +4,7 @@ ghost use Rattle.std.specs.Option.{option_copied, option_map};
 ghost use Rattle.reg_base.specs.Numbers.{sum_text};
 ghost use Rattle.desk_words.specs.declared.request.RecordText.{RecordText};
 ghost use Rattle.desk_words.specs.ReplyWords.{value_text as value_text_of};
-ghost use Rattle.desk_words.specs.ReplyTexts.{sum_texts as sum_texts_of};
+ghost use Rattle.desk_words.specs.RowTexts.{sum_texts as sum_texts_of};
 ghost use Rattle.desk_model.specs.Fields.{field_texts as field_texts_of};
 ghost use Rattle.desk_model.specs.Questions.{document_row as row_of_document};
 ghost use Rattle.desk_model.specs.Shown.{shown_document as shown_document_of, kind_at};

@@ -32,7 +32,7 @@ pub(crate) struct AskingLedger<'a> {
 
 // What is asked of a register; where balances alone are asked for, it has to keep them.
 #[tactic(auto, unfolding(crate::specs::Asked::asking_of))]
-pub(crate) fn asking<'a>(
+pub(crate) fn register_asked<'a>(
     alloc: Global,
     config: &'a Config,
     asked: &AskedRegister,

@@ -19,6 +19,7 @@ mod lists;
 mod registers;
 
 pub use documents::answer_documents;
-pub use ledgers::{answer_account_balance, answer_account_both, answer_account_turnovers};
-pub use ledgers::answer_pairs;
+pub use ledgers::{
+    answer_account_balance, answer_account_both, answer_account_turnovers, answer_pairs,
+};
 pub use registers::{answer_balance, answer_both, answer_turnovers};

@@ -35,11 +35,11 @@ pub(crate) fn asked_lists(
 fn lists_of(alloc: Global, register: &Register, texts: &[FilterText]) -> Tried<List<AskedList>>
     ensures { Tries result (each (asked_list_of register.now) texts.now) }
 {
-    let mut lists = List::new(alloc);
-    for text in texts {
+    let mut lists = Vec::new(alloc);
+    'texts: for text in texts {
         lists.push(asked_list(alloc, register, text)?)?;
     }
-    Ok(lists)
+    Ok(List::from_vec(lists))
 }
 
 // One list; under a name that no dimension has it is empty.
@@ -59,15 +59,15 @@ fn named_dimension<'a>(register: &'a Register, name: &Name) -> Option<&'a Dimens
     ensures { option_copied result
         ≡ find (λ d. bytes_eq d.name name.now) register.now.dimensions }
 {
-    register.dimensions.as_slice().iter().find(|d| d.name == *name)
+    register
+        .dimensions
+        .as_slice()
+        .iter()
+        .find(|d| d.name == *name)
 }
 
 // The values of texts where there is a dimension, and none where there is none.
-fn read_values(
-    alloc: Global,
-    dimension: Option<&Dimension>,
-    texts: &[Text],
-) -> Tried<List<Value>>
+fn read_values(alloc: Global, dimension: Option<&Dimension>, texts: &[Text]) -> Tried<List<Value>>
     ensures { Tries result (values_in (option_copied dimension.entry) texts.now) }
 {
     match dimension {
@@ -79,11 +79,11 @@ fn read_values(
 fn asked_values(alloc: Global, dimension: &Dimension, texts: &[Text]) -> Tried<List<Value>>
     ensures { Tries result (asked_values_of dimension.now texts.now) }
 {
-    let mut values = List::new(alloc);
-    for text in texts {
+    let mut values = Vec::new(alloc);
+    'texts: for text in texts {
         values.push(asked_value(dimension, text)?)?;
     }
-    Ok(values)
+    Ok(List::from_vec(values))
 }
 
 fn asked_value(dimension: &Dimension, text: &Text) -> Tried<Value>

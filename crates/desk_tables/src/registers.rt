@@ -11,7 +11,7 @@ ghost use Rattle.desk_model.specs.RegisterQuestions.{question_both};
 ghost use Rattle.desk_model.specs.Questions.{IsAnswer};
 ghost use Rattle.desk_model.specs.Serial.{question_answer};
 
-use crate::asked::{asking, refused};
+use crate::asked::{refused, register_asked};
 use cfg_model::{Config, Register};
 use desk_plans::Tried;
 use desk_words::{Answer, AskedDates, Balance, Both, Turnovers};
@@ -34,9 +34,10 @@ pub fn answer_balance(
         (question_balance config.now question.now)) }
     ensures answer { IfOk result IsAnswer }
 {
-    let asking = asking(alloc, config, &question.register, true)?;
+    let asking = register_asked(alloc, config, &question.register, true)?;
     let cut = question.cut.unwrap_or(Cut::Now);
-    let rows = refused(balance(alloc, &asking.ask, &cut, asking.register, documents))?;
+    let resources = asking.register.resources.len();
+    let rows = refused(balance(alloc, &asking.ask, &cut, resources, documents))?;
     let scales = scales_of(alloc, asking.register)?;
     Ok(Answer::Balance { rows, scales })
 }
@@ -55,7 +56,7 @@ pub fn answer_turnovers(
         (question_turnovers config.now question.now)) }
     ensures answer { IfOk result IsAnswer }
 {
-    let asking = asking(alloc, config, &question.register, false)?;
+    let asking = register_asked(alloc, config, &question.register, false)?;
     let range = range_of(&question.dates, &question.by);
     let rows = refused(turnovers(alloc, &asking.ask, &range, asking.register, documents))?;
     let scales = scales_of(alloc, asking.register)?;
@@ -80,7 +81,7 @@ pub fn answer_both(
     ensures answer { IfOk result IsAnswer }
 {
     let asked = &question.turnovers;
-    let asking = asking(alloc, config, &asked.register, true)?;
+    let asking = register_asked(alloc, config, &asked.register, true)?;
     let range = range_of(&asked.dates, &asked.by);
     let method = question.method.unwrap_or(Method::Movements);
     let rows = refused(balance_and_turnovers(

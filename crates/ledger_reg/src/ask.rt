@@ -5,7 +5,7 @@ use reg_base::Code;
 #[derive(Clone, Copy)]
 pub struct AccountAsk {
     /// The place of the ledger in the configuration.
-    pub ledger: u8,
+    pub ledger: usize,
     /// This account and those below it alone, or all.
     pub account: Option<Code>,
     /// Whether rows are told apart by extras.

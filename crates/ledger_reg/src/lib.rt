@@ -16,7 +16,9 @@ mod ask;
 mod pairs;
 mod rows;
 mod sides;
+mod standins;
 mod walk;
 
 pub use ask::AccountAsk;
 pub use pairs::dr_cr;
+pub use standins::{account_balance, account_both, account_turnovers};

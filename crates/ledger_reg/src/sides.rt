@@ -50,7 +50,7 @@ pub(crate) struct AccountSum {
 /// The sums of the entries inside a cut, in order of account and extras.
 pub(crate) fn cut_sums(
     alloc: Global,
-    ledger: u8,
+    ledger: usize,
     cut: &Cut,
     documents: Documents<'_>,
 ) -> Result<List<AccountSum>, Memory>

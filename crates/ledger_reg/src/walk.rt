@@ -36,7 +36,7 @@ pub(crate) fn add_documents<S: Gathers>(
     alloc: Global,
     sums: &mut S,
     documents: Documents<'_>,
-    ledger: u8,
+    ledger: usize,
     span: &Span,
 ) -> Result<(), Memory>
     requires few { length documents < 2 ^ 32 }
@@ -54,7 +54,7 @@ pub(crate) fn add_documents<S: Gathers>(
 }
 
 // The entries of a document in a ledger, where they count.
-fn entered_set(document: &Document, ledger: u8) -> &[Posting]
+fn entered_set(document: &Document, ledger: usize) -> &[Posting]
     requires { HasShortLedgers document.now }
     ensures value { map (booked document.now.doc.number) result.now
         ≡ entered_by ledger document.now }
@@ -63,7 +63,7 @@ fn entered_set(document: &Document, ledger: u8) -> &[Posting]
     if document.doc.state != DocState::Posted || !document.doc.active {
         return &[];
     }
-    match document.sets.ledgers.get(usize::from(ledger)) {
+    match document.sets.ledgers.get(ledger) {
         Some(set) => set.as_slice(),
         None => &[],
     }

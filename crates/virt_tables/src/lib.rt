@@ -14,6 +14,7 @@
 
 mod ask;
 mod balance_table;
+mod both_table;
 mod columns;
 mod cuts;
 mod limits;
@@ -22,5 +23,6 @@ mod turnover_table;
 
 pub use ask::Ask;
 pub use balance_table::balance;
+pub use both_table::balance_and_turnovers;
 pub use cuts::{Query, all_rows, balance_rows};
 pub use turnover_table::turnovers;
