@@ -13,7 +13,7 @@ use Rattle.std.specs.declared.cmp.Ordering.TheVariants.{Less, Equal, Greater}
 use Rattle.std.proofs.lemmas.Map.Lookups.{CmpEqualImpliesEq}
 use Rattle.reg_base.specs.Sums.{in_order_once}
 use Rattle.reg_base.specs.Records.{put_once}
-use Rattle.reg_base.proofs.ForAbove.{in_order_once-rising, any-in_order_once}
+use Rattle.reg_base.proofs.ForTables.{in_order_once-rising, any-in_order_once}
 use Rattle.ledger_reg.specs.Sizes.{total_size}
 
 -- ---- a map seen under other keys and values

@@ -19,11 +19,11 @@ use Rattle.std.proofs.lemmas.Map.Lookups.{CmpEqualImpliesEq, exact_bytes}
 use Rattle.reg_base.specs.declared.tables.PairRow.{PairRow}
 use Rattle.reg_base.specs.declared.tables.Range.{Range}
 use Rattle.reg_base.specs.declared.records.Document.{Document}
-use Rattle.reg_base.specs.BookedEntries.{BookedEntry, entry_cmp, entered_by, entries_of}
+use Rattle.reg_base.specs.BookedEntries.{BookedEntry, entered_by, entries_of}
 use Rattle.reg_base.specs.BookedEntries.{entries_in}
 use Rattle.reg_base.specs.Sums.{in_order_once}
-use Rattle.reg_base.proofs.ForAbove.{sum_over-permutation, in_order_once-permutation}
-use Rattle.reg_base.proofs.ForAbove.{IsPermutation-filter, IsPermutation-in_order}
+use Rattle.reg_base.proofs.ForTables.{sum_over-permutation, in_order_once-permutation}
+use Rattle.reg_base.proofs.ForTables.{IsPermutation-filter, entries_of-permutation}
 use Rattle.cfg_model.specs.declared.ledger.Chart.{Chart}
 use Rattle.cfg_model.specs.AccountTables.{Pair, pair_of, pair_cmp, absent_first, joins_asked}
 use Rattle.cfg_model.specs.AccountTables.{pair_row, pair_rows, dr_cr_of}
@@ -189,5 +189,5 @@ shown-dr_cr chart asked range ledger documents =
     (pair_sums-permutation (filter (counts (During range)) entered)
     (entries_in range (entries_of ledger documents))
     (IsPermutation-filter (counts (During range)) entered (entries_of ledger documents)
-    (IsPermutation-in_order entry_cmp entered)))
+    (entries_of-permutation ledger documents)))
     ∙ shown-pair_rows chart asked (entries_in range (entries_of ledger documents))

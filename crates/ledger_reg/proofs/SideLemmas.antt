@@ -18,7 +18,7 @@ use Rattle.std.proofs.lemmas.List.{append-nil}
 use Rattle.std.proofs.lemmas.List.Sorted.{IsPermutation-map, IsPermutation-append_comm}
 use Rattle.std.proofs.lemmas.Map.Lookups.{CmpEqualImpliesEq, exact_bytes}
 use Rattle.reg_base.specs.BookedEntries.{BookedEntry}
-use Rattle.reg_base.proofs.ForAbove.{sum_over-permutation, in_order_once-permutation}
+use Rattle.reg_base.proofs.ForTables.{sum_over-permutation, in_order_once-permutation}
 use Rattle.ledger_reg.specs.declared.sides.SideKey.{SideKey}
 use Rattle.ledger_reg.specs.declared.sides.Amounts.{Amounts}
 use Rattle.ledger_reg.specs.declared.sides.SideSums.{SideSums}
