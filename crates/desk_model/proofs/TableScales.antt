@@ -68,8 +68,8 @@ use Rattle.desk_model.specs.Shown.{shown_document}
 use Rattle.desk_model.specs.GivenRecords.{value_in}
 use Rattle.desk_model.specs.Questions.{answering, or_refused, range_of, question_doc}
 use Rattle.desk_model.specs.Questions.{question_documents}
-use Rattle.desk_model.specs.RegisterQuestions.{values_in, asked_list, asked_lists, named_table}
-use Rattle.desk_model.specs.RegisterQuestions.{question_about, scales_of, balance_answer}
+use Rattle.desk_model.specs.RegisterQuestions.{values_in, asked_value, asked_list, asked_lists}
+use Rattle.desk_model.specs.RegisterQuestions.{named_table, question_about, scales_of, balance_answer}
 use Rattle.desk_model.specs.RegisterQuestions.{turnovers_answer, both_answer, question_balance}
 use Rattle.desk_model.specs.RegisterQuestions.{question_turnovers, question_both}
 use Rattle.desk_model.specs.LedgerQuestions.{question_on, has_asked_account}
@@ -130,6 +130,7 @@ or_refused-good (Err fault) fine = record { answer = tt; refusal = tt }
 
 asked_list-plainly : (register : Register) (text : FilterText)
     → Plainly (asked_list register text)
+unfolding asked_list asked_value
 asked_list-plainly register text =
     then (values_in dimension text.values) _ (at dimension) (λ values. tt)
   where
@@ -138,8 +139,7 @@ asked_list-plainly register text =
 
     at : (d : Option Dimension) → Plainly (values_in d text.values)
     at None = tt
-    at (Some d) = IfErr-each RefusalHasScales
-        (λ t. some_or (value_in d t) (BadField (Named d.name)))
+    at (Some d) = IfErr-each RefusalHasScales (asked_value d)
         (λ t. there (value_in d t) (BadField (Named d.name)) tt) text.values
 
 module _ (config : Config) (state : State) (asked : AskedRegister)

@@ -39,10 +39,13 @@ use Rattle.desk_model.specs.Questions.{range_of, answering, or_refused}
 
 -- ---- what is asked of a register
 
+-- the value that a text spells in a dimension
+unfoldable pub asked_value : Dimension → List ℕ → Result Value Refusal
+asked_value dimension text = some_or (value_in dimension text) (BadField (Named dimension.name))
+
 -- the values that texts spell in a dimension
 abbrev pub asked_values : Dimension → List (List ℕ) → Result (List Value) Refusal
-asked_values dimension texts =
-    each (λ text. some_or (value_in dimension text) (BadField (Named dimension.name))) texts
+asked_values dimension texts = each (asked_value dimension) texts
 
 -- the values of texts where there is a dimension, and none where there is none
 abbrev pub values_in : Option Dimension → List (List ℕ) → Result (List Value) Refusal
@@ -51,7 +54,7 @@ values_in (Some dimension) texts = asked_values dimension texts
 
 -- one list of a filter, its texts read as values of the dimension that it names; a list under a
 -- name that no dimension has is not looked into
-abbrev pub asked_list : Register → FilterText → Result AskedList Refusal
+unfoldable pub asked_list : Register → FilterText → Result AskedList Refusal
 asked_list register text =
     values_in (find (λ d. bytes_eq d.name text.name) register.dimensions) text.values
     >>= λ values. Ok (record { name = text.name; values = values })

@@ -39,6 +39,6 @@ pub use manual::plan_manual;
 pub use part::value_in;
 pub use plans::{plan_activity, plan_mark, plan_sweep, plan_write};
 pub use posts::{plan_post, plan_standing, plan_unpost};
-pub use shown::{document_row, shown_document};
+pub use shown::{document_kind, shown_document};
 pub use sight::Sight;
 pub use tried::{PartFault, Tried};

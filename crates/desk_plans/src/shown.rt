@@ -6,7 +6,6 @@ ghost use Rattle.desk_words.specs.declared.request.RecordText.{RecordText};
 ghost use Rattle.desk_words.specs.ReplyWords.{value_text as value_text_of};
 ghost use Rattle.desk_words.specs.RowTexts.{sum_texts as sum_texts_of};
 ghost use Rattle.desk_model.specs.Fields.{field_texts as field_texts_of};
-ghost use Rattle.desk_model.specs.Questions.{document_row as row_of_document};
 ghost use Rattle.desk_model.specs.Shown.{shown_document as shown_document_of, kind_at};
 ghost use Rattle.desk_model.specs.Shown.{head_fields as head_fields_of};
 ghost use Rattle.desk_model.specs.Shown.{line_fields as line_fields_of};
@@ -19,7 +18,7 @@ use crate::sides::copy_side;
 use cfg_model::{Chart, Config, Field, Kind, Register, Resource};
 use desk_words::{FieldText, LedgerText, RecordText, RegisterText, SetText, ShownDocument};
 use reg_base::{
-    Cell, Doc, DocRow, Document, List, Memory, Name, Posting, Rec, Scale, Sets, Text, Value, sum_string,
+    Cell, Doc, Document, List, Memory, Name, Posting, Rec, Scale, Sets, Text, Value, sum_string,
 };
 use std::alloc::Global;
 
@@ -51,18 +50,11 @@ pub fn shown_document(
     })
 }
 
-/// The row of a document in a list of documents.
-pub fn document_row(config: &Config, document: &Document) -> DocRow
-    ensures { result ≡ row_of_document config.now document.now }
+/// The name of a document's type, where it has one.
+pub fn document_kind(config: &Config, document: &Document) -> Option<Name>
+    ensures { result ≡ option_map (λ k. k.name) (kind_at config.now document.now.doc.kind) }
 {
-    let doc = &document.doc;
-    DocRow {
-        number: doc.number,
-        date: doc.date,
-        kind: kind_name(kind_of(config, doc)),
-        key: doc.key,
-        state: doc.state,
-    }
+    kind_name(kind_of(config, &document.doc))
 }
 
 // The type of a document, where it has one.

@@ -41,11 +41,11 @@ module _ (config : Config) (documents : List Document) (asked : AskedRegister)
     (rows : Register → Option (List ℕ) → List Booked → Result R TableFault)
     (shown : Register → R → Answer) where
   -- the table that is asked for
-  table : Register → Option (List ℕ) → List Booked → Result Answer TableFault
+  abbrev pub table : Register → Option (List ℕ) → List Booked → Result Answer TableFault
   table register group records = answering (shown register) (rows register group records)
 
   -- the second step
-  tabled : AskedOf → Result Answer Refusal
+  abbrev pub tabled : AskedOf → Result Answer Refusal
   tabled a = refused (rows a.register a.ask.group
       (chosen_records a.ask.filter (records_of a.ask.register documents)))
       >>= λ found. Ok (shown a.register found)
@@ -62,7 +62,7 @@ module _ (config : Config) (documents : List Document) (asked : AskedRegister)
       → answer_to documents (about place register lists)
       ≡ ((refused (asked_by register place lists asked.group)
       >>= λ ask. Ok (record { ask = ask; register = register })) >>= tabled)
-  unfolding about table tabled answer_to asked_by
+  unfolding about answer_to asked_by
   at_lists place register lists = at (wrong_name register lists asked.group)
     where
       at : (wrong : Option (List ℕ))
@@ -131,11 +131,11 @@ module _ (config : Config) (documents : List Document) (ledger : List ℕ)
     (account : Option (List ℕ)) {R : Type 0}
     (rows : Chart → List BookedEntry → Result R TableFault) (shown : Chart → R → Answer) where
   -- the table that is asked for
-  ledger_table : Chart → List BookedEntry → Result Answer TableFault
+  abbrev pub ledger_table : Chart → List BookedEntry → Result Answer TableFault
   ledger_table chart entries = answering (shown chart) (rows chart entries)
 
   -- the second step
-  ledger_tabled : AskedLedger → Result Answer Refusal
+  abbrev pub ledger_tabled : AskedLedger → Result Answer Refusal
   ledger_tabled a = refused (rows a.chart (entries_of a.place documents))
       >>= λ found. Ok (shown a.chart found)
 
@@ -150,7 +150,7 @@ module _ (config : Config) (documents : List Document) (ledger : List ℕ)
       >>= answer_to documents)
       ≡ ((unless has (BadField AccountField) >>= λ _.
       Ok (record { place = place; chart = chart })) >>= ledger_tabled)
-  unfolding on ledger_table ledger_tabled answer_to
+  unfolding on answer_to
   at_chart place chart true =
       shown-refused (shown chart) (rows chart (entries_of place documents))
   at_chart place chart false = refl

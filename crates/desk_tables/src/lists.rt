@@ -3,11 +3,9 @@ ghost use Rattle.std.specs.Prelude.{◌≡◌, List, ℕ, IfOk};
 ghost use Rattle.std.specs.List.{find};
 ghost use Rattle.std.specs.Option.{option_copied};
 ghost use Rattle.std.specs.Str.{bytes_eq};
-ghost use Rattle.reg_base.specs.Results.{each, some_or};
-ghost use Rattle.desk_words.specs.declared.reply.Refusal.TheVariants.{BadField};
-ghost use Rattle.desk_words.specs.declared.reply.Field.TheVariants.{Named};
-ghost use Rattle.desk_model.specs.GivenRecords.{value_in as value_of};
+ghost use Rattle.reg_base.specs.Results.{each};
 ghost use Rattle.reg_base.specs.Tries.{Tries};
+ghost use Rattle.desk_model.specs.RegisterQuestions.{asked_value as asked_value_of};
 ghost use Rattle.desk_model.specs.RegisterQuestions.{asked_values as asked_values_of};
 ghost use Rattle.desk_model.specs.RegisterQuestions.{asked_list as asked_list_of, values_in};
 ghost use Rattle.desk_model.specs.RegisterQuestions.{asked_lists as asked_lists_of};
@@ -37,12 +35,14 @@ fn lists_of(alloc: Global, register: &Register, texts: &[FilterText]) -> Tried<L
 {
     let mut lists = Vec::new(alloc);
     'texts: for text in texts {
-        lists.push(asked_list(alloc, register, text)?)?;
+        let list = asked_list(alloc, register, text)?;
+        lists.push(list)?;
     }
     Ok(List::from_vec(lists))
 }
 
 // One list; under a name that no dimension has it is empty.
+#[tactic(auto, unfolding(desk_model::specs::RegisterQuestions::asked_list))]
 fn asked_list(alloc: Global, register: &Register, text: &FilterText) -> Tried<AskedList>
     ensures { Tries result (asked_list_of register.now text.now) }
 {
@@ -81,14 +81,15 @@ fn asked_values(alloc: Global, dimension: &Dimension, texts: &[Text]) -> Tried<L
 {
     let mut values = Vec::new(alloc);
     'texts: for text in texts {
-        values.push(asked_value(dimension, text)?)?;
+        let value = asked_value(dimension, text)?;
+        values.push(value)?;
     }
     Ok(List::from_vec(values))
 }
 
+#[tactic(auto, unfolding(desk_model::specs::RegisterQuestions::asked_value))]
 fn asked_value(dimension: &Dimension, text: &Text) -> Tried<Value>
-    ensures { Tries result (some_or (value_of dimension.now text.now)
-        (BadField (Named dimension.now.name))) }
+    ensures { Tries result (asked_value_of dimension.now text.now) }
 {
     match value_in(dimension, text.as_str()) {
         Some(value) => Ok(value),
