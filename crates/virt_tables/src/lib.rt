@@ -14,13 +14,20 @@
 
 mod ask;
 mod balance_table;
+mod both_sums;
+mod both_table;
+mod carried;
 mod columns;
 mod cuts;
+mod ends;
 mod limits;
 mod moves;
+#[cfg(test)]
+mod tests;
 mod turnover_table;
 
 pub use ask::Ask;
 pub use balance_table::balance;
+pub use both_table::balance_and_turnovers;
 pub use cuts::{Query, all_rows, balance_rows};
 pub use turnover_table::turnovers;
