@@ -3,7 +3,7 @@
 ghost use Rattle.std.specs.Prelude.{◌≡◌, ◌+◌, ◌≤◌, ◌<◌, ◌^◌, [], ◌∷◌, All, length, map, nat_lt};
 ghost use Rattle.std.specs.Prelude.{IfOk};
 ghost use Rattle.std.specs.List.{flat_map};
-ghost use Rattle.reg_base.specs.Records.{booked_by};
+ghost use Rattle.reg_base.specs.Records.{booked_by, matches as matches_of};
 ghost use Rattle.row_sums.specs.Sums.{booked};
 ghost use Rattle.table_sums.specs.Additions.{AreInReach, Adds, rows_over};
 ghost use Rattle.virt_tables.specs.Bounds.{HasShortRecords};
@@ -74,15 +74,22 @@ fn add_asked(
     moves: &Moves<'_>,
     ends: &[Unit],
 ) -> Result<(), Memory>
-    requires reach { AreInReach (2 ^ 45 + 2 ^ 44 + 2 ^ 43) sums.old }
+    requires reach { AreInReach (most_brought + 15_000) sums.old }
     requires ends { length ends.now ≤ 2 }
     ensures { IfOk result (λ _.
         AddsBoth moves.now ends.now (booked number rec.now ∷ []) sums.old sums.new) }
 {
-    if !matches(&moves.ask.filter, rec.values.as_slice()) {
+    if !is_asked(rec, moves) {
         return Ok(());
     }
     add_brought(alloc, sums, rec, number, moves, ends)
+}
+
+// Whether a record is asked for.
+fn is_asked(rec: &Rec, moves: &Moves<'_>) -> bool
+    ensures { result ≡ matches_of moves.now.ask.now.filter rec.now.values }
+{
+    matches(&moves.ask.filter, rec.values.as_slice())
 }
 
 // Adds what a record brings.
@@ -94,7 +101,7 @@ fn add_brought(
     moves: &Moves<'_>,
     ends: &[Unit],
 ) -> Result<(), Memory>
-    requires reach { AreInReach (2 ^ 45 + 2 ^ 44 + 2 ^ 43) sums.old }
+    requires reach { AreInReach (most_brought + 15_000) sums.old }
     requires ends { length ends.now ≤ 2 }
     ensures { IfOk result (λ _. Adds (both_width moves.now.resources)
         (brings moves.now.resources moves.now.ask.now.group moves.now.range.now ends.now
@@ -160,7 +167,7 @@ fn add_ends(
     moves: &Moves<'_>,
     ends: &[Unit],
 ) -> Result<(), Memory>
-    requires reach { AreInReach (2 ^ 45 + 2 ^ 44 + 2 ^ 43 + 2) sums.old }
+    requires reach { AreInReach (most_brought + 15_002) sums.old }
     requires ends { length ends.now ≤ 2 }
     ensures { IfOk result (λ _. Adds (both_width moves.now.resources)
         (ends_at moves.now.resources moves.now.ask.now.group ends.now rec.now)

@@ -49,8 +49,9 @@ pub fn balance_and_turnovers(
         balances: true,
         resources: register.resources.len(),
     };
-    let sums = both_sums(alloc, documents, &moves, ends.as_slice())?;
-    both_rows(alloc, moves.resources, ends.as_slice(), sums.into_rows(alloc)?)
+    let edges = ends.as_slice();
+    let sums = both_sums(alloc, documents, &moves, edges)?;
+    both_rows(alloc, moves.resources, edges, sums.into_rows(alloc)?)
 }
 
 // The rows that stand, each opening with what its group had before.
