@@ -1,5 +1,7 @@
 -- For the crates above: the lemmas of this crate that their proofs may cite.
-use Rattle.std.proofs.Common.{◌≡◌, ℕ, ◌+◌, ◌<◌, ◌≤◌, ℤ, pos, List, [], ◌++◌, map}
+use Rattle.std.proofs.Common.{◌≡◌, ℕ, ◌+◌, ◌<◌, ◌≤◌, ℤ, pos, neg_ℤ, ◌+ℤ◌, ◌≤ℤ◌, List, []}
+use Rattle.std.proofs.Common.{◌++◌, map}
+use Rattle.std.specs.Prelude.{unsigned_abs}
 use Rattle.std.specs.List.{range_with_len}
 use Rattle.table_sums.specs.declared.sums.UnitSums.{UnitSums}
 use Rattle.table_sums.specs.Additions.{Addition, number_at, IsInReach, AreInReach, Adds}
@@ -19,6 +21,15 @@ range-same = adds.range-same
 -- 0 is in reach
 pub zero-reach : (count : ℕ) → IsInReach count (pos 0)
 zero-reach = sizes.zero-reach
+
+-- a number between two bounds is no further from 0 than they are
+pub abs-within : (bound : ℕ) (x : ℤ) → unsigned_abs x ≤ bound
+    → (neg_ℤ (pos bound) ≤ℤ x) × (x ≤ℤ pos bound)
+abs-within = sizes.abs-within
+
+-- a sum is no further from 0 than both numbers together
+pub abs-sum : (x y : ℤ) → unsigned_abs (x +ℤ y) ≤ unsigned_abs x + unsigned_abs y
+abs-sum = sizes.abs-sum
 
 -- nothing added
 pub Adds-none : (columns : ℕ) (rows : List UnitSums) → Adds columns [] rows rows

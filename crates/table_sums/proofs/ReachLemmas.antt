@@ -16,6 +16,10 @@ use Rattle.table_sums.proofs.RowLemmas.{row_key, row, with_row, set_row, found_a
 pub zero-reach : (count : ℕ) → IsInReach count (pos 0)
 zero-reach count = (omega (arith, ints), omega (arith, ints))
 
+-- a number that is in reach of so many is in reach of more
+pub more-reach : (m n : ℕ) (x : ℤ) → m ≤ n → IsInReach m x → IsInReach n x
+more-reach m n x l h = (omega (arith, ints, l, h.0), omega (arith, ints, l, h.1))
+
 -- a number between two bounds is no further from 0 than they are
 pub abs-within : (bound : ℕ) (x : ℤ) → unsigned_abs x ≤ bound
     → (neg_ℤ (pos bound) ≤ℤ x) × (x ≤ℤ pos bound)

@@ -6,12 +6,13 @@
 //! Stands on: `reg_base` for groups, units and their order.
 //!
 //! Promises: sums of nothing have no rows; what is added is added to the row of its key; the rows
-//! come out as they are seen.
+//! come out as they are seen. `added` adds numbers column by column.
 //!
 //! Leaves open: what the columns are, and how much memory the sums take.
 #![tactic(auto)]
 
-mod added;
+mod column_sums;
 mod sums;
 
+pub use column_sums::added;
 pub use sums::{TableSums, UnitSums};

@@ -7,7 +7,7 @@ ghost use Rattle.std.specs.List.{range_with_len};
 ghost use Rattle.table_sums.specs.Additions.{number_at, IsInReach, AreInReach, Adds, addition};
 ghost use Rattle.table_sums.specs.Rows.{rows_of};
 
-use crate::added::added;
+use crate::column_sums::added;
 use reg_base::{List, Memory, Unit, Value};
 use std::alloc::Global;
 use std::collections::BTreeMap;
@@ -98,8 +98,8 @@ fn add_to(
 
 // The sums with the numbers of their columns added.
 fn total(alloc: Global, sums: &Vec<i128>, numbers: &Vec<i128>) -> Result<Vec<i128>, Memory>
-    requires reach { (j : ℕ) → IsInReach (2 ^ 46) (number_at sums.now.items j) }
-    requires small { (j : ℕ) → IsInReach 1 (number_at numbers.now.items j) }
+    requires reach { (j : ℕ) → IsInReach (2 ^ 60) (number_at sums.now.items j) }
+    requires small { (j : ℕ) → IsInReach (2 ^ 60) (number_at numbers.now.items j) }
     ensures { IfOk result (λ totals. totals.items
         ≡ map (λ j. number_at numbers.now.items j +ℤ number_at sums.now.items j)
         (range_with_len 0 (length sums.now.items))) }

@@ -16,6 +16,15 @@ pub table_of-range : {R : Type 0} (range : Range) (rows : List R)
     → table_of range rows ≡ limited rows
 table_of-range range rows h = ap (λ r. r >>= λ _. limited rows) h
 
+-- such a range begins before its end
+pub range-le : (from to : ℕ) (fault : TableFault) → unless (nat_le from to) fault ≡ Ok tt
+    → from ≤ to
+range-le from to fault h = at (nat_le from to) refl h
+  where
+    at : (b : Bool) → nat_le from to ≡ b → unless b fault ≡ Ok tt → from ≤ to
+    at true e h = grind (arith, e)
+    at false e h = absurd (cc)
+
 -- a table whose range is none
 pub table_of-fault : {R : Type 0} (range : Range) (rows : List R) (fault : TableFault)
     → unless (nat_le range.from range.to) (BadRange range.from range.to) ≡ Err fault

@@ -1,4 +1,5 @@
 pub mod Asks
+pub mod Both
 pub mod Bounds
 pub mod Columns
 pub mod Cuts

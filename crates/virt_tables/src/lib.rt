@@ -14,11 +14,16 @@
 
 mod ask;
 mod balance_table;
+mod both_sums;
 mod both_table;
+mod carried;
 mod columns;
 mod cuts;
+mod ends;
 mod limits;
 mod moves;
+#[cfg(test)]
+mod tests;
 mod turnover_table;
 
 pub use ask::Ask;

@@ -99,16 +99,20 @@ fn is_moved(rec: &Rec, moves: &Moves<'_>) -> bool
     matches(&moves.ask.filter, rec.values.as_slice()) && is_in_range(rec, moves.range)
 }
 
-// Whether a record lies in the range.
-fn is_in_range(rec: &Rec, range: &Range) -> bool
+/// Whether a record lies in the range.
+pub(crate) fn is_in_range(rec: &Rec, range: &Range) -> bool
     ensures { result ≡ (nat_le range.now.from rec.now.period
         && nat_le rec.now.period range.now.to) }
 {
     range.from <= rec.period && rec.period <= range.to
 }
 
-// The values that a record is grouped by.
-fn group_of(alloc: Global, group: &Option<List<u8>>, values: &[Value]) -> Result<Vec<Value>, Memory>
+/// The values that a record is grouped by.
+pub(crate) fn group_of(
+    alloc: Global,
+    group: &Option<List<u8>>,
+    values: &[Value],
+) -> Result<Vec<Value>, Memory>
     ensures { IfOk result (λ v. v.items ≡ values_of_group group.now values.now) }
 {
     match group {

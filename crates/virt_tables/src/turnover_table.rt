@@ -125,8 +125,8 @@ fn push_row(
     Ok(())
 }
 
-// Whether not all of the numbers are 0.
-fn has_number(numbers: &[i128]) -> bool
+/// Whether not all of the numbers are 0.
+pub(crate) fn has_number(numbers: &[i128]) -> bool
     ensures { result ≡ has_number_in numbers.now }
 {
     numbers.iter().any(|number| *number != 0)
@@ -184,8 +184,8 @@ fn turn_row(alloc: Global, sums: UnitSums) -> Row
     }
 }
 
-// The numbers up to a place, and those behind it.
-fn split(numbers: &[i128], place: usize) -> (&[i128], &[i128])
+/// The numbers up to a place, and those behind it.
+pub(crate) fn split(numbers: &[i128], place: usize) -> (&[i128], &[i128])
     ensures front { result.0.now ≡ take place numbers.now }
     ensures back { result.1.now ≡ drop place numbers.now }
 {

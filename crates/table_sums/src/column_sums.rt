@@ -7,9 +7,9 @@ use reg_base::Memory;
 use std::alloc::Global;
 
 /// The sums with the numbers of their columns added.
-pub(crate) fn added(alloc: Global, sums: &[i128], numbers: &[i128]) -> Result<Vec<i128>, Memory>
-    requires reach { (j : ℕ) → IsInReach (2 ^ 46) (number_at sums.now j) }
-    requires small { (j : ℕ) → IsInReach 1 (number_at numbers.now j) }
+pub fn added(alloc: Global, sums: &[i128], numbers: &[i128]) -> Result<Vec<i128>, Memory>
+    requires reach { (j : ℕ) → IsInReach (2 ^ 60) (number_at sums.now j) }
+    requires small { (j : ℕ) → IsInReach (2 ^ 60) (number_at numbers.now j) }
     ensures { IfOk result (λ totals. totals.items
         ≡ map (λ j. number_at numbers.now j +ℤ number_at sums.now j)
         (range_with_len 0 (length sums.now))) }
@@ -23,8 +23,8 @@ pub(crate) fn added(alloc: Global, sums: &[i128], numbers: &[i128]) -> Result<Ve
 
 // The sum of a column with its number added.
 fn total_in(sums: &[i128], numbers: &[i128], column: usize) -> i128
-    requires reach { IsInReach (2 ^ 46) (number_at sums.now column) }
-    requires small { IsInReach 1 (number_at numbers.now column) }
+    requires reach { IsInReach (2 ^ 60) (number_at sums.now column) }
+    requires small { IsInReach (2 ^ 60) (number_at numbers.now column) }
     ensures { result ≡ number_at numbers.now column +ℤ number_at sums.now column }
 {
     number_in(numbers, column) + number_in(sums, column)

@@ -1,7 +1,7 @@
 use Rattle.std.proofs.Common.{◌≡◌, ◌+ℤ◌, map}
 use Rattle.std.specs.List.{range_with_len}
 use Rattle.table_sums.specs.Additions.{number_at}
-use Rattle.table_sums.proofs.added.added.Given as goal
+use Rattle.table_sums.proofs.column_sums.added.Given as goal
 
 abbrev pub invariant-loop-column : goal.invariant-loop-column
 invariant-loop-column l =
