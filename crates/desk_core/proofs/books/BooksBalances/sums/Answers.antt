@@ -1,5 +1,5 @@
 use Rattle.std.proofs.Common.{◌≡◌, IfOk, List, All, ap, ◌∙◌, sym, subst}
-use Rattle.reg_base.specs.Documents.{HasShortSets}
+use Rattle.virt_tables.specs.Bounds.{HasShortRecords}
 use Rattle.std.specs.List.{flat_map}
 use Rattle.std.specs.Option.{option_copied}
 use Rattle.reg_base.specs.declared.records.SumRow.{SumRow}
@@ -9,7 +9,7 @@ use Rattle.virt_tables.specs.declared.cuts.Query.{Query}
 use Rattle.desk_core.specs.Books.{BooksView, resources_at}
 use Rattle.virt_tables.specs.Cuts.{counted}
 use Rattle.virt_tables.proofs.ForAbove.{rows-others}
-use Rattle.desk_core.proofs.ShortLemmas.{short-documents}
+use Rattle.desk_core.proofs.ShortLemmas.{short-records}
 use Rattle.desk_core.proofs.books.BooksBalances.sums.Goals as goal
 
 pub returns : goal.returns
@@ -34,5 +34,5 @@ returns c =
 
 pub balance_rows-requires-clause-short : goal.balance_rows-requires-clause-short
 balance_rows-requires-clause-short c =
-    subst (All HasShortSets) (sym c.walk.ensures.walk)
-    (short-documents c.self.inside.store.now.documents c.self.invariant.short)
+    subst (All HasShortRecords) (sym c.walk.ensures.walk)
+    (short-records c.self.inside.store.now.documents c.self.invariant.short)
