@@ -3,7 +3,7 @@ use Rattle.std.proofs.Common.{◌≡◌, ℕ, ◌+◌, ◌^◌, ◌≤◌, ℤ, 
 use Rattle.std.proofs.Common.{List, [], ◌∷◌, ◌++◌, map, refl, ap, ◌∙◌, sym}
 use Rattle.std.proofs.Common.{subst, arith, append_assoc}
 use Rattle.std.specs.Prelude.{unwrap_or, IsPermutation}
-use Rattle.std.specs.List.{flat_map}
+use Rattle.std.specs.List.{filter, flat_map}
 use Rattle.std.specs.List.Sorted.{IsStrictlySortedBy}
 use Rattle.std.specs.Map.{lookup, keys_of}
 use Rattle.std.specs.BTreeMap.{insert_entry}
@@ -16,15 +16,17 @@ use Rattle.std.proofs.lemmas.Cmp.{lists_total}
 use Rattle.std.proofs.lemmas.Int.{ints}
 use Rattle.std.proofs.lemmas.List.{append-nil}
 use Rattle.std.proofs.lemmas.List.Sorted.{IsPermutation-map, IsPermutation-append_comm}
+use Rattle.std.proofs.lemmas.List.Sorted.{IsPermutation-append_left, IsPermutation-append_right}
 use Rattle.std.proofs.lemmas.Map.Lookups.{CmpEqualImpliesEq, exact_bytes}
 use Rattle.reg_base.specs.BookedEntries.{BookedEntry}
 use Rattle.reg_base.proofs.ForTables.{sum_over-permutation, in_order_once-permutation}
+use Rattle.reg_base.proofs.ForTables.{value-permutation}
 use Rattle.ledger_reg.specs.declared.sides.SideKey.{SideKey}
 use Rattle.ledger_reg.specs.declared.sides.Amounts.{Amounts}
 use Rattle.ledger_reg.specs.declared.sides.SideSums.{SideSums}
 use Rattle.ledger_reg.specs.contracts.sides.SideKeyOrd.TheImpl.{ghosts}
 use Rattle.ledger_reg.specs.Sides.{SidePlace, SideAmounts, place_cmp, place_in, sides_in}
-use Rattle.ledger_reg.specs.Sides.{no_amounts}
+use Rattle.ledger_reg.specs.Sides.{no_amounts, account_sum, account_sums, is_moved}
 use Rattle.ledger_reg.specs.Sides.{plus_side, place_sums, side_sums, sides_of, amounts_at}
 use Rattle.ledger_reg.specs.Sides.{amounts_size, sides_size, RaisesSide, AddsSide, SumsSides}
 use Rattle.ledger_reg.specs.Sizes.{size_of, total_size}
@@ -35,12 +37,12 @@ use Rattle.ledger_reg.proofs.SizeLemmas.{size-plus}
 
 -- ---- the order of places
 
-then-Equal : (a b : Ordering) → ordering_then a b ≡ Equal → (a ≡ Equal) × (b ≡ Equal)
+pub then-Equal : (a b : Ordering) → ordering_then a b ≡ Equal → (a ≡ Equal) × (b ≡ Equal)
 then-Equal Less b h = (cc, cc)
 then-Equal Equal b h = (refl, h)
 then-Equal Greater b h = (cc, cc)
 
-exact_lists : {X : Type 0} (R : X → X → Ordering) → CmpEqualImpliesEq R
+pub exact_lists : {X : Type 0} (R : X → X → Ordering) → CmpEqualImpliesEq R
     → CmpEqualImpliesEq (slice_cmp R)
 exact_lists R exact [] [] h = refl
 exact_lists R exact [] (y ∷ ys) h = cc
@@ -75,7 +77,7 @@ derived_total =
 
 -- ---- one side more
 
-zero_first : (n : ℤ) → pos 0 +ℤ n ≡ n
+pub zero_first : (n : ℤ) → pos 0 +ℤ n ≡ n
 zero_first n = omega (arith, ints)
 
 place_sums-own : (s : SideAmounts) (ds : List SideAmounts) (p : SidePlace)
@@ -187,3 +189,46 @@ both-added b xs ys m n old mid new same few h k = record {
       ∙ ap (λ t. flat_map sides_of bs ++ t) (sym same) ∙ flat_map-push bs b);
   growth = omega (arith, h.growth, k.growth, few);
 }
+
+-- ---- entries in another order
+
+-- the sums of sides in front of those of entries
+abbrev behind : List BookedEntry → List SideAmounts → List (SidePlace × Amounts)
+behind es ds = side_sums (ds ++ flat_map sides_of es)
+
+behind-more : (b : BookedEntry) (xs ys : List BookedEntry) → behind xs ≡ behind ys
+    → behind (b ∷ xs) ≡ behind (b ∷ ys)
+behind-more b xs ys h = λ i. λ ds. at ds i
+  where
+    at : (ds : List SideAmounts) → behind (b ∷ xs) ds ≡ behind (b ∷ ys) ds
+    at ds =
+        ap side_sums (sym (append_assoc ds (sides_of b) (flat_map sides_of xs)))
+        ∙ (λ i. h i (ds ++ sides_of b))
+        ∙ ap side_sums (append_assoc ds (sides_of b) (flat_map sides_of ys))
+
+behind-flip : (a b : BookedEntry) (xs : List BookedEntry)
+    → behind (a ∷ b ∷ xs) ≡ behind (b ∷ a ∷ xs)
+behind-flip a b xs = λ i. λ ds. at ds i
+  where
+    rest : List SideAmounts
+    rest = flat_map sides_of xs
+
+    turned : IsPermutation (sides_of a ++ (sides_of b ++ rest)) (sides_of b ++ (sides_of a ++ rest))
+    turned =
+        subst (λ (xs : List SideAmounts). IsPermutation xs (sides_of b ++ (sides_of a ++ rest)))
+        (append_assoc (sides_of a) (sides_of b) rest)
+        (subst (λ (ys : List SideAmounts). IsPermutation ((sides_of a ++ sides_of b) ++ rest) ys)
+        (append_assoc (sides_of b) (sides_of a) rest)
+        (IsPermutation-append_left rest _ _
+        (IsPermutation-append_comm (sides_of a) (sides_of b))))
+
+    at : (ds : List SideAmounts) → behind (a ∷ b ∷ xs) ds ≡ behind (b ∷ a ∷ xs) ds
+    at ds = side_sums-permutation _ _ (IsPermutation-append_right ds _ _ turned)
+
+-- the sums of the same entries in another order
+pub account_sums-permutation : (xs ys : List BookedEntry) → IsPermutation xs ys
+    → account_sums xs ≡ account_sums ys
+account_sums-permutation xs ys same =
+    let sums : behind xs ≡ behind ys =
+    value-permutation behind behind-more behind-flip xs ys same in
+    λ i. filter is_moved (map account_sum (sums i []))

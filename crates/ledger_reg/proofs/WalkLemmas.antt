@@ -106,3 +106,13 @@ documents-few p ledger ds i h few = omega (
   flat-short ledger (take i ds) (All-take HasShortLedgers i ds h),
   length-take i ds,
 )
+
+pub all-few : (p : BookedEntry → Bool) (ledger : ℕ) (ds : List Document)
+    → All HasShortLedgers ds → length ds < 2 ^ 32
+    → length (filter p (flat_map (entered_by ledger) ds)) ≤ 2 ^ 45
+all-few p ledger ds h few = omega (
+  arith,
+  filter-short p (flat_map (entered_by ledger) ds),
+  flat-short ledger ds h,
+  few,
+)

@@ -1,11 +1,12 @@
 -- Private: which entries are counted, and what is added to sums.
-use Rattle.std.specs.Prelude.{ℕ, ◌+◌, ◌*◌, ◌^◌, ◌≤◌, ◌&&◌, nat_le, Bool, List, ◌++◌, length, All}
+use Rattle.std.specs.Prelude.{ℕ, ◌+◌, ◌*◌, ◌^◌, ◌≤◌, ◌&&◌, nat_le, Bool, true, List, ◌++◌, length}
+use Rattle.std.specs.Prelude.{All}
 use Rattle.reg_base.specs.declared.records.Posting.{Posting}
 use Rattle.reg_base.specs.declared.records.Document.{Document}
 use Rattle.reg_base.specs.Cuts.{inside}
 use Rattle.reg_base.specs.BookedEntries.{BookedEntry, entry_point}
 use Rattle.ledger_reg.specs.declared.walk.Span.{Span}
-use Rattle.ledger_reg.specs.declared.walk.Span.TheVariants.{Inside, During}
+use Rattle.ledger_reg.specs.declared.walk.Span.TheVariants.{Inside, During, Through}
 
 -- an entry with the number of the document that made it
 abbrev pub booked : ℕ → Posting → BookedEntry
@@ -15,6 +16,7 @@ booked number posting = record { recorder = number; entry = posting }
 abbrev pub counts : Span → BookedEntry → Bool
 counts (Inside cut) b = inside cut (entry_point b)
 counts (During range) b = nat_le range.from b.entry.period && nat_le b.entry.period range.to
+counts (Through range) b = true
 
 -- no set of entries of a document is longer than a set may be
 abbrev pub HasShortLedgers : Document → Type 0

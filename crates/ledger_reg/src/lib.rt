@@ -1,4 +1,4 @@
-//! Tables of ledgers: sums by pairs of accounts.
+//! Tables of ledgers: balances, turnovers and both by account, and sums by pairs of accounts.
 //!
 //! Means: each table is that of `specs/AccountTables.antt` of `cfg_model`, over the entries of the
 //! documents that a viewer sees.
@@ -13,12 +13,18 @@
 #![tactic(auto)]
 
 mod ask;
+mod balances;
+mod nets;
 mod pairs;
 mod rows;
 mod sides;
-mod standins;
+mod slots;
+mod unit_rows;
+mod unit_tables;
+mod units;
 mod walk;
 
 pub use ask::AccountAsk;
+pub use balances::account_balance;
 pub use pairs::dr_cr;
-pub use standins::{account_balance, account_both, account_turnovers};
+pub use unit_tables::{account_both, account_turnovers};

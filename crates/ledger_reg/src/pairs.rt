@@ -3,14 +3,14 @@ ghost use Rattle.std.specs.Prelude.{◌≡◌, ℕ, ◌<◌, ◌≤◌, ◌*◌,
 ghost use Rattle.std.specs.List.{flat_map};
 ghost use Rattle.reg_base.specs.Tries.{Tries};
 ghost use Rattle.reg_base.specs.BookedEntries.{entries_of};
-ghost use Rattle.reg_base.specs.Turnovers.{table_of};
+ghost use Rattle.reg_base.specs.Turnovers.{table_of, limited_rows};
 ghost use Rattle.cfg_model.specs.AccountTables.{dr_cr_of};
 ghost use Rattle.cfg_model.specs.AccountTables.{joins_asked as are_joined, has_asked as is_shown};
 ghost use Rattle.cfg_model.specs.AccountTables.{account_of_side as account_on};
 ghost use Rattle.ledger_reg.specs.Walks.{HasShortLedgers};
 ghost use Rattle.ledger_reg.specs.Pairs.{SumsPairs, RaisesPair, pairs_size, pair_in, pairs_in};
 ghost use Rattle.ledger_reg.specs.Pairs.{sum_at, shown_pair};
-ghost use Rattle.ledger_reg.specs.RowLists.{Puts, limited};
+ghost use Rattle.ledger_reg.specs.RowLists.{Puts};
 
 use crate::ask::AccountAsk;
 use crate::rows::{check_range, put_row};
@@ -90,11 +90,11 @@ impl PairSums {
 }
 
 impl Gathers for PairSums {
-    ghost holds = { SumsPairs };
+    ghost holds = { λ span. SumsPairs };
 
     ghost size = { pairs_size };
 
-    fn add(&mut self, _alloc: Global, posting: &Posting) -> Result<(), Memory> {
+    fn add(&mut self, _alloc: Global, posting: &Posting, _span: &Span) -> Result<(), Memory> {
         let debit = account_of(&posting.debit);
         let credit = account_of(&posting.credit);
         self.raise(debit, credit, posting.amount)
@@ -118,7 +118,7 @@ fn pair_rows(
     asked: &Option<Code>,
     chart: &Chart,
 ) -> Result<List<PairRow>, Fault<TableFault>>
-    ensures { Tries result (limited (flat_map (shown_pair chart.now asked.now)
+    ensures { Tries result (limited_rows (flat_map (shown_pair chart.now asked.now)
         (pairs_in sums.now.sums.entries))) }
 {
     let mut rows = List::new(alloc);

@@ -11,6 +11,7 @@ ghost use Rattle.ledger_reg.specs.Walks.{HasShortLedgers, counts};
 ghost use Rattle.ledger_reg.specs.Sides.{SumsSides, RaisesSide, sides_size, place_in, sides_in};
 ghost use Rattle.ledger_reg.specs.Sides.{amounts_at as found_at, amounts_of, account_sum};
 ghost use Rattle.ledger_reg.specs.Sides.{account_sums, is_moved as has_moved, AddsSide};
+ghost use Rattle.ledger_reg.specs.Balances.{sums_size};
 
 use crate::walk::{Gathers, Span, add_documents};
 use doc_store::Documents;
@@ -21,15 +22,15 @@ use std::collections::BTreeMap;
 /// An account with extras.
 #[derive(PartialEq, Eq, PartialOrd, Ord, Drop)]
 pub(crate) struct SideKey {
-    account: Code,
-    extras: Vec<Code>,
+    pub account: Code,
+    pub extras: Vec<Code>,
 }
 
 /// The sums of debits and of credits.
 #[derive(Clone, Copy)]
 pub(crate) struct Amounts {
-    debit: i128,
-    credit: i128,
+    pub debit: i128,
+    pub credit: i128,
 }
 
 /// Sums by account and extras.
@@ -56,8 +57,9 @@ pub(crate) fn cut_sums(
 ) -> Result<List<AccountSum>, Memory>
     requires few { length documents < 2 ^ 32 }
     requires short { All HasShortLedgers documents }
-    ensures { IfOk result (λ sums. sums ≡ account_sums
+    ensures value { IfOk result (λ sums. sums ≡ account_sums
         (filter (counts (InsideIs cut.now)) (flat_map (entered_by ledger) documents.entry))) }
+    ensures small { IfOk result (λ sums. sums_size sums ≤ 2 ^ 64 * 2 ^ 46) }
 {
     let mut sums = SideSums::new(alloc);
     let span = Span::Inside(*cut);
@@ -147,11 +149,11 @@ impl SideSums {
 }
 
 impl Gathers for SideSums {
-    ghost holds = { SumsSides };
+    ghost holds = { λ span. SumsSides };
 
     ghost size = { sides_size };
 
-    fn add(&mut self, alloc: Global, posting: &Posting) -> Result<(), Memory> {
+    fn add(&mut self, alloc: Global, posting: &Posting, _span: &Span) -> Result<(), Memory> {
         self.add_side(alloc, &posting.debit, posting.amount, 0)?;
         self.add_side(alloc, &posting.credit, 0, posting.amount)
     }

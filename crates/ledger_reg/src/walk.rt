@@ -11,24 +11,28 @@ use std::alloc::Global;
 
 /// What is summed over entries.
 pub(crate) trait Gathers {
-    // Whether these are the entries that it sums.
-    ghost holds: { List BookedEntry → Self → Type 0 };
+    ghost use Rattle.ledger_reg.specs.declared.walk.Span.{Span};
+
+    // Whether these are the entries of a span that it sums.
+    ghost holds: { Span → List BookedEntry → Self → Type 0 };
 
     // How large its numbers are, all together.
     ghost size: { Self → ℕ };
 
-    /// Adds an entry.
-    fn add(&mut self, alloc: Global, posting: &Posting) -> Result<(), Memory>
+    /// Adds an entry of a span.
+    fn add(&mut self, alloc: Global, posting: &Posting, span: &Span) -> Result<(), Memory>
         requires { size self.old ≤ 2 ^ 64 * 2 ^ 46 }
         ensures { (number : ℕ) → IfOk result (λ _.
-            Adds holds size (booked number posting.now ∷ []) self.old self.new) };
+            Adds (holds span.now) size (booked number posting.now ∷ []) self.old self.new) };
 }
 
-/// Which entries are counted: those inside a cut, or those whose dates are in a range.
+/// Which entries are counted: those inside a cut, those whose dates are in a range, or all, which
+/// a range tells apart.
 #[derive(Drop)]
 pub(crate) enum Span {
     Inside(Cut),
     During(Range),
+    Through(Range),
 }
 
 /// Adds the entries of documents that a span counts.
@@ -42,7 +46,7 @@ pub(crate) fn add_documents<S: Gathers>(
     requires few { length documents < 2 ^ 32 }
     requires short { All HasShortLedgers documents }
     requires small { S.size sums.old ≡ 0 }
-    ensures { IfOk result (λ _. Adds S.holds S.size
+    ensures { IfOk result (λ _. Adds (S.holds span.now) S.size
         (filter (counts_in span.now) (flat_map (entered_by ledger) documents.entry))
         sums.old sums.new) }
 {
@@ -79,7 +83,7 @@ fn add_set<S: Gathers>(
 ) -> Result<(), Memory>
     requires size { S.size sums.old ≤ 2 ^ 64 * 2 ^ 45 }
     requires short { length set.now ≤ 5_000 }
-    ensures { IfOk result (λ _. Adds S.holds S.size
+    ensures { IfOk result (λ _. Adds (S.holds span.now) S.size
         (filter (counts_in span.now) (map (booked number) set.now)) sums.old sums.new) }
 {
     for posting in set {
@@ -97,13 +101,13 @@ fn add_counted<S: Gathers>(
     span: &Span,
 ) -> Result<(), Memory>
     requires { S.size sums.old ≤ 2 ^ 64 * 2 ^ 46 }
-    ensures { IfOk result (λ _. Adds S.holds S.size
+    ensures { IfOk result (λ _. Adds (S.holds span.now) S.size
         (filter (counts_in span.now) (booked number posting.now ∷ [])) sums.old sums.new) }
 {
     if !counts(span, posting, number) {
         return Ok(());
     }
-    sums.add(alloc, posting)
+    sums.add(alloc, posting, span)
 }
 
 // Whether a span counts an entry.
@@ -117,5 +121,6 @@ fn counts(span: &Span, posting: &Posting, number: u32) -> bool
     match span {
         Span::Inside(cut) => inside(*cut, point),
         Span::During(range) => range.from <= posting.period && posting.period <= range.to,
+        Span::Through(_) => true,
     }
 }

@@ -1,8 +1,8 @@
 -- The rows of what records bring are their balances and turnovers.
-use Rattle.std.proofs.Common.{◌≡◌, ℕ, zero, suc, ◌+◌, ◌<◌, ◌≤◌, ℤ, pos, ◌+ℤ◌, Bool, true, false}
-use Rattle.std.proofs.Common.{◌&&◌, ◌||◌, cond, nat_lt, nat_le, Option, List, [], ◌∷◌, ◌++◌, map}
-use Rattle.std.proofs.Common.{length, refl, ap, ◌∙◌, sym, arith, take, drop}
-use Rattle.std.specs.List.{filter, flat_map, range_with_len, AllByRecursion}
+use Rattle.std.proofs.Common.{◌≡◌, ℕ, ◌+◌, ◌<◌, ℤ, pos, ◌+ℤ◌, Bool, true, false}
+use Rattle.std.proofs.Common.{◌&&◌, cond, nat_lt, Option, List, [], ◌∷◌, ◌++◌, map}
+use Rattle.std.proofs.Common.{refl, ap, ◌∙◌, sym, arith, take, drop}
+use Rattle.std.specs.List.{flat_map, range_with_len}
 use Rattle.std.specs.Ordering.{is_eq, is_lt, is_le, ordering_then}
 use Rattle.std.specs.declared.cmp.Ordering.{Ordering}
 use Rattle.std.specs.declared.cmp.Ordering.TheVariants.{Less, Equal, Greater}
@@ -29,7 +29,7 @@ use Rattle.virt_tables.specs.declared.columns.Column.{Column}
 use Rattle.virt_tables.specs.declared.columns.Column.TheVariants.{Receipt, Expense, Amount, Nothing}
 use Rattle.virt_tables.specs.Columns.{column_at, numbers_of}
 use Rattle.virt_tables.specs.Both.{columns_before, columns_moved, columns_none, both_width, brought}
-use Rattle.virt_tables.specs.Both.{before_at, moved_at, ends_at, brings, sums_of, turned, opened}
+use Rattle.virt_tables.specs.Both.{before_at, moved_at, ends_at, brings, sums_of, opened}
 use Rattle.virt_tables.proofs.ListLemmas.{number_at-left, number_at-right}
 use Rattle.virt_tables.proofs.RunLemmas.{made, made-same, sums_of-made, made-first, made-second}
 use Rattle.virt_tables.proofs.RunLemmas.{made-third, made-last, is_upto, is_under, opens_at}
@@ -313,7 +313,8 @@ module _ (n : ℕ) (group : Option (List ℕ)) (range : Range) (ends : List Tabl
         (contribution group k.group j b) (pos 0)) (in_range range bs)
     under-total k j h =
         sum-amounts (is_under k) bs j h
-        ∙ sum_over-same (λ b. cond (is_under k (key_of group range.by b)) (amount_at j b.rec) (pos 0))
+        ∙ sum_over-same
+        (λ b. cond (is_under k (key_of group range.by b)) (amount_at j b.rec) (pos 0))
         (λ b. cond (is_lt (unit_cmp (unit_of range.by b) k.unit))
         (contribution group k.group j b) (pos 0))
         (λ b. lower (values_cmp (group_of group b) k.group)
@@ -355,10 +356,10 @@ module _ (n : ℕ) (group : Option (List ℕ)) (range : Range) (ends : List Tabl
           expense = expenses-for k i;
           turnover = turn i;
           closing = ((λ i. sums_of (opening i) (turn i))
-          ∙ sums_of-made n balance (λ j. sum_over (λ b. cond (is_of group range.by k b)
-          (amount_at j b.rec) (pos 0)) (in_range range bs))
-          ∙ closing balance (λ j. sum_over (λ b. cond (is_of group range.by k b)
-          (amount_at j b.rec) (pos 0)) (in_range range bs)) (range_with_len 0 n)) i;
+              ∙ sums_of-made n balance (λ j. sum_over (λ b. cond (is_of group range.by k b)
+              (amount_at j b.rec) (pos 0)) (in_range range bs))
+              ∙ closing balance (λ j. sum_over (λ b. cond (is_of group range.by k b)
+              (amount_at j b.rec) (pos 0)) (in_range range bs)) (range_with_len 0 n)) i;
         }
       where
         plus-swap : (x y : ℤ) → x +ℤ y ≡ y +ℤ x

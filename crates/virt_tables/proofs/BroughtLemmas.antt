@@ -4,7 +4,7 @@ use Rattle.std.proofs.Common.{false, cond, ◌&&◌, nat_lt, nat_le, Option, Lis
 use Rattle.std.proofs.Common.{length, refl, ap, ◌∙◌, sym, subst, arith, take, drop, get_or}
 use Rattle.std.proofs.Common.{length-append}
 use Rattle.std.specs.Prelude.{unsigned_abs}
-use Rattle.std.specs.List.{All, filter, flat_map, range_with_len}
+use Rattle.std.specs.List.{All, flat_map, range_with_len}
 use Rattle.std.specs.Ordering.{is_eq}
 use Rattle.std.proofs.lemmas.Bool.Decides.{nat_tests}
 use Rattle.std.proofs.lemmas.Grind.{flat_map-append}

@@ -1,6 +1,6 @@
 -- Rows in order, each opening with what those before it leave, open with sums over lower rows.
-use Rattle.std.proofs.Common.{◌≡◌, ℕ, zero, suc, ◌+◌, ◌<◌, ◌≤◌, ℤ, pos, ◌+ℤ◌, Bool, true, false, ◌&&◌}
-use Rattle.std.proofs.Common.{cond, List, [], ◌∷◌, map, length, refl, ap, ◌∙◌, sym, arith}
+use Rattle.std.proofs.Common.{◌≡◌, ℕ, ◌+◌, ◌<◌, ℤ, pos, ◌+ℤ◌, Bool, true, false, ◌&&◌}
+use Rattle.std.proofs.Common.{cond, List, [], ◌∷◌, map, refl, ap, ◌∙◌, sym, arith}
 use Rattle.std.proofs.Common.{take, drop}
 use Rattle.std.specs.List.{range_with_len, AllByRecursion}
 use Rattle.std.specs.List.Sorted.{IsStrictlySortedBy}

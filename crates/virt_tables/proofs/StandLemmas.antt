@@ -1,5 +1,5 @@
 -- Rising keys that have the same ones among them are the same, and those of rows that stand are.
-use Rattle.std.proofs.Common.{◌≡◌, Bool, true, false, ◌&&◌, ◌||◌, cond, List, [], ◌∷◌, ◌++◌, map}
+use Rattle.std.proofs.Common.{◌≡◌, Bool, true, false, ◌&&◌, ◌||◌, cond, List, [], ◌∷◌, map}
 use Rattle.std.proofs.Common.{refl, ap, ◌∙◌, sym}
 use Rattle.std.specs.List.{filter, flat_map, list_any, AllByRecursion}
 use Rattle.std.specs.List.Sorted.{IsStrictlySortedBy}
@@ -198,7 +198,7 @@ module _ {K : Type 0} {R : K → K → Ordering} (o : IsTotalOrder R)
       both false false true a h = refl
       both false false false a h = refl
 
-  -- where keys that pass a test are among both of two rising lists, or among none, they are the same
+  -- where keys that pass a test are among both of two rising lists or none, they are the same
   pub filter-same : (p : K → Bool) (xs ys : List K) → IsStrictlySortedBy R xs
       → IsStrictlySortedBy R ys
       → ((k : K) → p k ≡ true → is_among k xs ≡ is_among k ys) → filter p xs ≡ filter p ys

@@ -1,5 +1,5 @@
-//! What records bring to balances with turnovers: what stood before the range, what moved in it, and
-//! nothing at its ends, so that these stand.
+//! What records bring to balances with turnovers: what stood before the range, what moved in it,
+//! and nothing at its ends, so that these stand.
 ghost use Rattle.std.specs.Prelude.{◌≡◌, ◌+◌, ◌≤◌, ◌<◌, ◌^◌, [], ◌∷◌, All, length, map, nat_lt};
 ghost use Rattle.std.specs.Prelude.{IfOk};
 ghost use Rattle.std.specs.List.{flat_map};

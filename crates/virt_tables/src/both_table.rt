@@ -25,8 +25,8 @@ use reg_base::{Fault, List, Memory, Method, Range, Row, TableFault, Unit};
 use std::alloc::Global;
 use table_sums::UnitSums;
 
-/// The balances and turnovers of a register: what stood before each unit of the range, what moved in
-/// it, and what stood then, by group and unit.
+/// The balances and turnovers of a register: what stood before each unit of the range, what moved
+/// in it, and what stood then, by group and unit.
 pub fn balance_and_turnovers(
     alloc: Global,
     ask: &Ask,

@@ -41,12 +41,7 @@ impl Carried {
     }
 
     /// The row of sums behind those before it.
-    pub(crate) fn row(
-        &self,
-        alloc: Global,
-        resources: usize,
-        sums: UnitSums,
-    ) -> Result<Row, Memory>
+    pub(crate) fn row(&self, alloc: Global, resources: usize, sums: UnitSums) -> Result<Row, Memory>
         requires { IsCarried resources self.now.balance (sums ∷ []) }
         ensures { IfOk result (λ row. row
             ≡ row_after resources self.now.group self.now.balance sums) }

@@ -22,8 +22,6 @@ mod cuts;
 mod ends;
 mod limits;
 mod moves;
-#[cfg(test)]
-mod tests;
 mod turnover_table;
 
 pub use ask::Ask;

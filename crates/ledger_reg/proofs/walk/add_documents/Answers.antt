@@ -35,7 +35,7 @@ loop-document-preserved g c =
     c.next.ensures.steps in
     let p = counts c.args.span.now in
     let f = entered_by c.args.ledger in
-    let holds = g.S.Gathers.holds in
+    let holds = g.S.Gathers.holds c.args.span.now in
     let size = g.S.Gathers.size in
     let added : Adds holds size (filter p (f c.in-Some.document.now)) c.loop-document.sums
     c.add_set.new.sums = subst (λ (xs : List BookedEntry). Adds holds size (filter p xs)
@@ -54,7 +54,7 @@ returns g c =
     let end = YieldsList-end (YieldsList-from_first (λ x. x.now) (λ ds. ds) c.args.documents
     c.into_iter-document-iterator.ensures.into_iter_gives)
     c.loop-document.yielded _ c.loop-document.yielded_by _ _ c.in-None.is c.next.ensures.steps in
-    subst (λ (ds : List Document). Adds g.S.Gathers.holds g.S.Gathers.size
+    subst (λ (ds : List Document). Adds (g.S.Gathers.holds c.args.span.now) g.S.Gathers.size
     (filter (counts c.args.span.now) (flat_map (entered_by c.args.ledger) ds)) c.args.sums.now
     c.loop-document.sums)
     (take_all (length c.loop-document.yielded) c.args.documents (omega (arith, end.1)))

@@ -18,7 +18,7 @@ add_counted-requires g c = omega (
 
 pub loop-posting-preserved : goal.loop-posting-preserved
 loop-posting-preserved g c =
-    let holds = g.S.Gathers.holds in
+    let holds = g.S.Gathers.holds c.args.span.now in
     let size = g.S.Gathers.size in
     subst (λ (xs : List BookedEntry). Adds holds size xs c.args.sums.now c.add_counted.new.sums)
     (set-more (counts c.args.span.now) c.args.number c.args.set.now c.loop-posting.posting-index
@@ -28,7 +28,7 @@ loop-posting-preserved g c =
 
 pub returns : goal.returns
 returns g c =
-    subst (λ (set : List Posting). Adds g.S.Gathers.holds g.S.Gathers.size
+    subst (λ (set : List Posting). Adds (g.S.Gathers.holds c.args.span.now) g.S.Gathers.size
     (filter (counts c.args.span.now) (map (booked c.args.number) set)) c.args.sums.now
     c.loop-posting.sums)
     (take_all c.loop-posting.posting-index c.args.set.now c.loop-posting-test.false)

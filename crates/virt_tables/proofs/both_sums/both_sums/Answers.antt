@@ -56,7 +56,8 @@ loop-document-preserved c =
     subst P
     (documents-both m c.args.ends.now (booked_by m.ask.now.register) c.args.documents
     (length c.loop-document.yielded) c.in-Some.document.now turn
-    ∙ ap (λ n. both_moves m c.args.ends.now (flat_map (booked_by m.ask.now.register) (take n c.args.documents)))
+    ∙ ap (λ n. both_moves m c.args.ends.now
+    (flat_map (booked_by m.ask.now.register) (take n c.args.documents)))
     (sym (length_push c.loop-document.yielded c.in-Some.document)))
     (Adds-both width _ _ [] c.loop-document.sums
     c.add_set.new.sums c.loop-document.invariant added)

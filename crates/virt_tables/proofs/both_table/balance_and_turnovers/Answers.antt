@@ -1,4 +1,4 @@
-use Rattle.std.proofs.Common.{◌≡◌, ◌≤◌, ◌^◌, List, [], length, ap, ◌∙◌, sym, subst}
+use Rattle.std.proofs.Common.{◌≡◌, ◌^◌, List, [], length, ap, ◌∙◌, sym, subst}
 use Rattle.std.specs.List.{filter, flat_map}
 use Rattle.reg_base.specs.Tries.{Tries}
 use Rattle.reg_base.specs.Records.{Booked, booked_by, records_of, chosen_records}
