@@ -9,5 +9,6 @@ pub mod LimitLemmas
 pub mod LineLemmas
 pub mod MadeLemmas
 pub mod PlanLemmas
+pub mod QuestionLemmas
 pub mod SheetLemmas
 pub mod StepLemmas
