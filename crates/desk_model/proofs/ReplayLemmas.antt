@@ -105,8 +105,8 @@ change_effect-passes tests setting state number change effect accepted =
 
     at : (planned : Result Plan Refusal) → change.plan sight ≡ planned →
         (planned >>= λ plan. tests.limits sight plan (made_at setting state sight plan)
-        >>= λ _. behind setting state number sight plan) ≡ Ok effect → Passes tests setting state number change
-        effect
+        >>= λ _. behind setting state number sight plan) ≡ Ok effect
+        → Passes tests setting state number change effect
     at (Ok plan) is h =
         test plan is (tests.limits sight plan (made_at setting state sight plan)) refl h
     at (Err refusal) is h = cc

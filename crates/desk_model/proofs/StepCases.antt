@@ -37,7 +37,8 @@ use Rattle.desk_model.specs.LedgerQuestions.{question_account_both, question_pai
 use Rattle.desk_model.specs.Effects.{Effect, Tests, close_effect}
 use Rattle.desk_model.specs.Controls.{control_fault}
 use Rattle.desk_model.specs.Effects.{documents_with}
-use Rattle.desk_model.specs.Serial.{sight_of, made_at, work_effect, plan_effect, change_effect, answer_effect}
+use Rattle.desk_model.specs.Serial.{sight_of, made_at, work_effect, plan_effect}
+use Rattle.desk_model.specs.Serial.{change_effect, answer_effect}
 use Rattle.desk_model.specs.Serial.{question_answer, question_effect, effect_of}
 use Rattle.desk_model.specs.Desk.{Event, meaning_at, command_at, tests_of, commits_of, event_of}
 use Rattle.desk_model.specs.Desk.{step}

@@ -20,7 +20,8 @@ use Rattle.reg_base.specs.declared.tables.Periodicity.{Periodicity}
 use Rattle.reg_base.specs.declared.tables.Range.{Range}
 use Rattle.reg_base.specs.declared.tables.Row.{Row}
 use Rattle.reg_base.specs.declared.fault.TableFault.{TableFault}
-use Rattle.reg_base.specs.declared.fault.TableFault.TheVariants.{BadRange, TooManyRows, UnknownField}
+use Rattle.reg_base.specs.declared.fault.TableFault.TheVariants.{BadRange, TooManyRows}
+use Rattle.reg_base.specs.declared.fault.TableFault.TheVariants.{UnknownField}
 use Rattle.reg_base.specs.Documents.{document_at}
 use Rattle.reg_base.specs.Results.{◌>>=◌, unless, some_or, none_or}
 use Rattle.reg_base.specs.Records.{Booked, amount_at, records_within, records_of, chosen_records}
@@ -29,7 +30,8 @@ use Rattle.reg_base.specs.Balances.{sum_rows, row_of, groups_of, is_shown, total
 use Rattle.reg_base.specs.Sums.{sum_over, in_order_once, plus_each}
 use Rattle.reg_base.specs.Turnovers.{RowKey, key_cmp, key_of, in_range, receipt_at, expense_at}
 use Rattle.reg_base.specs.Turnovers.{sums_where, is_of, turnover_row, has_movement, turnover_rows}
-use Rattle.reg_base.specs.Turnovers.{before_unit, edge_units, both_keys, both_row, stands, both_rows}
+use Rattle.reg_base.specs.Turnovers.{before_unit, edge_units, both_keys, both_row}
+use Rattle.reg_base.specs.Turnovers.{stands, both_rows}
 use Rattle.reg_base.specs.Turnovers.{row_limit, limited_rows, table_of}
 use Rattle.cfg_model.specs.declared.config.Config.{Config}
 use Rattle.cfg_model.specs.declared.ledger.Chart.{Chart}
@@ -69,7 +71,8 @@ use Rattle.desk_model.specs.GivenRecords.{value_in}
 use Rattle.desk_model.specs.Questions.{answering, or_refused, range_of, question_doc}
 use Rattle.desk_model.specs.Questions.{question_documents}
 use Rattle.desk_model.specs.RegisterQuestions.{values_in, asked_value, asked_list, asked_lists}
-use Rattle.desk_model.specs.RegisterQuestions.{named_table, question_about, scales_of, balance_answer}
+use Rattle.desk_model.specs.RegisterQuestions.{named_table, question_about, scales_of}
+use Rattle.desk_model.specs.RegisterQuestions.{balance_answer}
 use Rattle.desk_model.specs.RegisterQuestions.{turnovers_answer, both_answer, question_balance}
 use Rattle.desk_model.specs.RegisterQuestions.{question_turnovers, question_both}
 use Rattle.desk_model.specs.LedgerQuestions.{question_on, has_asked_account}

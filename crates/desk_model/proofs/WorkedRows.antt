@@ -32,7 +32,8 @@ use Rattle.desk_model.specs.RegisterQuestions.{question_about, question_balance}
 use Rattle.desk_model.specs.Limits.{limits_of}
 use Rattle.desk_model.specs.Effects.{Effect}
 use Rattle.desk_model.specs.Serial.{work_effect, plan_effect, change_effect, question_answer}
-use Rattle.desk_model.specs.Serial.{question_effect, answer_to, effect_of, SerialFault, bad_number, serial}
+use Rattle.desk_model.specs.Serial.{question_effect, answer_to, effect_of, SerialFault}
+use Rattle.desk_model.specs.Serial.{bad_number, serial}
 use Rattle.desk_model.specs.Desk.{step}
 use Rattle.desk_model.proofs.RepeatLemmas.{step-same_number, same_number-same}
 use Rattle.desk_model.proofs.RowBooks.{shop, empty, morning, fifteenth, manual_at, nails_under}
