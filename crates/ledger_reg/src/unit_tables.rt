@@ -8,7 +8,6 @@ ghost use Rattle.reg_base.specs.Tries.{Tries};
 ghost use Rattle.reg_base.specs.BookedEntries.{entries_of, entered_by};
 ghost use Rattle.reg_base.specs.Turnovers.{table_of};
 ghost use Rattle.cfg_model.specs.AccountTables.{account_turnovers_of, account_both_of};
-ghost use Rattle.cfg_model.specs.AccountTables.{is_asked as is_shown, nature_at as nature_of};
 ghost use Rattle.ledger_reg.specs.Walks.{HasShortLedgers, counts};
 ghost use Rattle.ledger_reg.specs.Sides.{amounts_size, place_in, place_cmp};
 ghost use Rattle.ledger_reg.specs.RowLists.{Puts};
@@ -22,14 +21,15 @@ ghost use Rattle.ledger_reg.specs.UnitRows.{unit_table, rolled_at, rolled_if};
 ghost use Rattle.cfg_model.specs.AccountTables.{is_at_or_below as at_or_below};
 ghost use Rattle.ledger_reg.specs.UnitRows.{place_of};
 
-use crate::ask::AccountAsk;
+use crate::ask::{AccountAsk, asks_for};
+use crate::balances::nature_of;
 use crate::rows::check_range;
 use crate::sides::{Amounts, SideKey};
 use crate::slots::{SlotKey, SlotSums};
 use crate::unit_rows::put_rows;
 use crate::units::{Units, range_starts};
 use crate::walk::{Span, add_documents};
-use cfg_model::{Chart, Nature};
+use cfg_model::Chart;
 use doc_store::Documents;
 use reg_base::{AccountRow, Code, Fault, List, Memory, Range, TableFault};
 use std::alloc::Global;
@@ -242,35 +242,15 @@ fn put_place(
     ensures { Puts result (asked_rows chart.now ask.now units.now
         (slots_in sums.now.sums.entries) (place_in place.now)) rows.old rows.new }
 {
-    if !is_asked(chart, &ask.account, &place.account) {
+    if !asks_for(chart, &ask.account, &place.account) {
         return Ok(());
     }
-    let nature = nature_at(chart, &place.account);
+    let nature = nature_of(chart, &place.account);
     if ask.extras {
         return put_rows(alloc, rows, units, nature, sums, place);
     }
     let rolled = roll_up(alloc, &place.account, sums, chart)?;
     put_rows(alloc, rows, units, nature, &rolled, place)
-}
-
-// Whether an account is asked for.
-fn is_asked(chart: &Chart, asked: &Option<Code>, code: &Code) -> bool
-    ensures { result ≡ is_shown chart.now asked.now code.now }
-{
-    match asked {
-        None => true,
-        Some(top) => chart.is_at_or_below(top, code),
-    }
-}
-
-// The nature of the account of this code.
-fn nature_at(chart: &Chart, code: &Code) -> Nature
-    ensures { result ≡ nature_of chart.now code.now }
-{
-    match chart.account(code) {
-        None => Nature::Both,
-        Some(account) => account.nature,
-    }
 }
 
 // The sums of an account and those below it, as its own.
