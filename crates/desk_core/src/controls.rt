@@ -129,13 +129,7 @@ fn failure_at(
     let former = own_set(before, place);
     let own = own_set(Some(after), place);
     let changes = changed_rows(alloc, former, own, resource_place)?;
-    let sums = sums_behind(
-        alloc,
-        store.walk(),
-        after,
-        place,
-        register.resources.len(),
-    )?;
+    let sums = sums_behind(alloc, store.walk(), after, place, register.resources.len())?;
     first_below(
         alloc,
         register,

@@ -120,9 +120,7 @@ impl Desk {
     }
 
     // The document as it is shown.
-    #[tactic(auto, unfolding(
-        desk_model::specs::Serial::question_answer, desk_model::specs::Serial::answer_to
-    ))]
+    #[tactic(auto, unfolding(desk_model::specs::Serial::question_answer, desk_model::specs::Serial::answer_to))]
     fn show(&self, alloc: Global, question: &DocQuestion) -> Tried<Answer>
         ensures value { Tries result (question_answer self.now.desk.serial.documents
             (question_doc self.now.desk.setting.config question.now)) }

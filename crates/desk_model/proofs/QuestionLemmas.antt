@@ -72,9 +72,9 @@ use Rattle.desk_model.specs.Laws.{TablesHold}
 
 -- the rows that an answer shows
 pub record Shows {R : Type 0} (shown : List R → Answer) (rows : List R) (answer : Answer) : Type 0
-    where
-  pub short : IsShort rows
-  pub answer_is : answer ≡ shown rows
+  where
+    pub short : IsShort rows
+    pub answer_is : answer ≡ shown rows
 
 short-le : (n : ℕ) → nat_le n row_limit ≡ true → n ≤ row_limit
 short-le n h = grind (arith, h)
@@ -208,9 +208,9 @@ module _ (desk : Desk) (asked : AskedRegister) (has_table : Register → Bool)
 -- a table of a ledger that was asked for, and its answer
 pub record AnswersOn (desk : Desk) (ledger : List ℕ) (account : Option (List ℕ))
     (table : Chart → List BookedEntry → Result Answer TableFault) (answer : Answer) : Type 0
-    where
-  pub asks : AsksLedger desk ledger account
-  pub answered : table asks.chart (entries_of asks.place desk.serial.documents) ≡ Ok answer
+  where
+    pub asks : AsksLedger desk ledger account
+    pub answered : table asks.chart (entries_of asks.place desk.serial.documents) ≡ Ok answer
 
 module _ (desk : Desk) (ledger : List ℕ) (account : Option (List ℕ))
     (table : Chart → List BookedEntry → Result Answer TableFault) (answer : Answer) where

@@ -149,7 +149,7 @@ module _ (config : Config) (state : State) (asked : AskedRegister)
     (has_table : Register → Bool)
     (table : Register → Option (List ℕ) → List Booked → Result Answer TableFault)
     (fine : (register : Register) (group : Option (List ℕ)) (records : List Booked)
-        → IfOk (table register group records) AnswerHasScales) where
+    → IfOk (table register group records) AnswerHasScales) where
   about-good : IfOk (question_about config asked has_table table)
       (λ q. IsGood (answer_to state.documents q))
   unfolding question_about answer_to
@@ -291,7 +291,7 @@ both-scales method range register group records =
 module _ (config : Config) (state : State) (ledger : List ℕ) (account : Option (List ℕ))
     (table : Chart → List BookedEntry → Result Answer TableFault)
     (fine : (chart : Chart) (entries : List BookedEntry)
-        → IfOk (table chart entries) AnswerHasScales) where
+    → IfOk (table chart entries) AnswerHasScales) where
   on-good : IfOk (question_on config ledger account table)
       (λ q. IsGood (answer_to state.documents q))
   unfolding question_on answer_to

@@ -108,7 +108,7 @@ rows_at-between config from to documents ordered =
 module _ (config : Config) (documents : List Document) (q : DocumentsQuestion) (range : Range)
     (numbers : List ℕ) (range_is : range ≡ range_of q.dates None)
     (numbers_are : numbers
-        ≡ map (λ d. d.doc.number) (documents_between range.from range.to documents)) where
+    ≡ map (λ d. d.doc.number) (documents_between range.from range.to documents)) where
   abbrev between : List Document
   between = documents_between range.from range.to documents
 
