@@ -1,7 +1,7 @@
 pub mod ControlLemmas
 pub mod ControlSums
 pub mod DeedLemmas
-pub mod DeskLemmas
+pub mod ShortLemmas
 pub mod DocumentLists
 pub mod KeptLemmas
 pub mod LastLemmas
@@ -9,6 +9,6 @@ pub mod LimitLemmas
 pub mod LineLemmas
 pub mod MadeLemmas
 pub mod PlanLemmas
-pub mod RowLemmas
+pub mod QuestionLemmas
 pub mod SheetLemmas
 pub mod StepLemmas

@@ -13,6 +13,9 @@ use Rattle.desk_model.specs.declared.last.Last.{Last}
 use Rattle.desk_model.specs.LastRequests.{lasts_with}
 use Rattle.desk_words.specs.declared.reply.Answer.{Answer}
 use Rattle.desk_words.specs.declared.reply.Answer.TheVariants.{Acknowledged, Balance, Shown}
+use Rattle.desk_words.specs.declared.reply.Answer.TheVariants.{Turnovers, Both, AccountBalance}
+use Rattle.desk_words.specs.declared.reply.Answer.TheVariants.{AccountTurnovers, AccountBoth, DrCr}
+use Rattle.desk_words.specs.declared.reply.Answer.TheVariants.{Documents}
 use Rattle.desk_words.specs.declared.reply.Reply.TheVariants.{Done}
 use Rattle.desk_words.specs.declared.reply.Acknowledgement.{Acknowledgement}
 use Rattle.desk_core.specs.declared.outcome.Change.{Change as CoreChange}
@@ -20,7 +23,8 @@ use Rattle.desk_core.specs.declared.outcome.Entry.{Entry}
 use Rattle.desk_core.specs.declared.outcome.Outcome.TheVariants.{Replies, Changes}
 use Rattle.desk_core.specs.declared.outcome.Prepared.{Prepared}
 use Rattle.desk_core.specs.DeskViews.{changed, desk_with, MayChange}
-use Rattle.desk_core.specs.Outcomes.{IsAnswer, Comes, Prepares}
+use Rattle.desk_model.specs.Questions.{IsAnswer}
+use Rattle.desk_core.specs.Outcomes.{Comes, Prepares}
 
 -- ---- steps
 
@@ -38,6 +42,13 @@ step-replies desk r reply prepared comes reply_is text_is none =
     kept clerk None answer lasts is = refl
     kept clerk (Some n) (Acknowledged a) lasts is = absurd is
     kept clerk (Some n) (Balance rows scales) lasts is = refl
+    kept clerk (Some n) (Turnovers balances rows scales) lasts is = refl
+    kept clerk (Some n) (Both rows scales) lasts is = refl
+    kept clerk (Some n) (AccountBalance rows scale) lasts is = refl
+    kept clerk (Some n) (AccountTurnovers rows scale) lasts is = refl
+    kept clerk (Some n) (AccountBoth rows scale) lasts is = refl
+    kept clerk (Some n) (DrCr rows scale) lasts is = refl
+    kept clerk (Some n) (Documents rows) lasts is = refl
     kept clerk (Some n) (Shown document) lasts is = refl
 
     made : (event : Event) → event.reply ≡ reply → event.desk ≡ desk →

@@ -4,5 +4,4 @@ pub mod DeskViews
 pub mod Invariants
 pub mod Lines
 pub mod Outcomes
-pub mod Rows
 pub mod SeenStates

@@ -2,8 +2,7 @@
 use Rattle.std.specs.Prelude.{◌≡◌, ℕ, Option, None, Some, List, [], ◌∷◌, ◌++◌, Result, Ok, Err, ⊤}
 use Rattle.std.specs.Option.{ForSome}
 use Rattle.desk_words.specs.declared.reply.Acknowledgement.{Acknowledgement}
-use Rattle.desk_words.specs.declared.reply.Answer.{Answer}
-use Rattle.desk_words.specs.declared.reply.Answer.TheVariants.{Acknowledged, Balance, Shown}
+use Rattle.desk_words.specs.declared.reply.Answer.TheVariants.{Acknowledged}
 use Rattle.desk_words.specs.declared.reply.Reply.{Reply}
 use Rattle.desk_words.specs.declared.reply.Reply.TheVariants.{Done}
 use Rattle.desk_words.specs.ReplyTexts.{reply_text}
@@ -20,6 +19,7 @@ use Rattle.desk_model.specs.declared.plan.Source.TheVariants.{ByHand, ByRules, K
 use Rattle.desk_model.specs.declared.plan.Source.TheVariants.{Removed}
 use Rattle.desk_model.specs.Plans.{Sight}
 use Rattle.desk_model.specs.Limits.{limits_of}
+use Rattle.desk_model.specs.Questions.{IsAnswer}
 use Rattle.desk_model.specs.Effects.{Tests}
 use Rattle.desk_model.specs.Serial.{deed_effect, plan_effect, work_effect}
 use Rattle.desk_model.specs.Desk.{Event, reply_at, tests_of, meaning_at, command_at}
@@ -33,12 +33,6 @@ use Rattle.desk_core.specs.DeskViews.{changed, desk_with, MayChange}
 abbrev pub stop_reply : Result (Unit {0}) Stop → Option Reply
 stop_reply (Ok u) = None
 stop_reply (Err stop) = Some (reply_at stop)
-
--- the answer to a question
-abbrev pub IsAnswer : Answer → Type 0
-IsAnswer (Acknowledged acknowledgement) = ⊥
-IsAnswer (Balance rows scales) = ⊤
-IsAnswer (Shown document) = ⊤
 
 -- an effect is answered, and changes nothing
 pub record Answers (desk : Desk) (effect : Effect) (reply : Reply) : Type 0 where

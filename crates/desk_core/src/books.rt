@@ -3,12 +3,12 @@ ghost use Rattle.std.specs.Prelude.{◌≡◌};
 ghost use Rattle.reg_base.specs.Records.{records_of};
 ghost use Rattle.desk_core.specs.Books.{AreSummed, resources_at as resources_of};
 
-use crate::rows::{Query, balance_rows};
 use cfg_model::Config;
 use doc_store::{Balances, Store};
 use reg_base::{Cut, Filter, List, Memory, SumRow};
 use std::alloc::Global;
 use std::marker::Model;
+use virt_tables::{Query, balance_rows};
 
 /// The documents of a desk under its configuration.
 #[derive(Drop)]

@@ -21,6 +21,12 @@ pub(crate) fn clerk_of(request: &Request) -> &Name
         Request::Close(close) => &close.clerk,
         Request::Sweep(sweep) => &sweep.clerk,
         Request::Balance(balance) => &balance.clerk,
+        Request::Turnovers(turnovers) => &turnovers.clerk,
+        Request::Both(both) => &both.turnovers.clerk,
+        Request::AccountBalance(balance) => &balance.clerk,
+        Request::AccountTurnovers(turnovers) | Request::AccountBoth(turnovers) => &turnovers.clerk,
+        Request::DrCr(pairs) => &pairs.clerk,
+        Request::Documents(documents) => &documents.clerk,
         Request::Doc(question) => &question.clerk,
     }
 }
@@ -34,7 +40,10 @@ pub(crate) fn right_of(request: &Request) -> Right
         Request::Post(_) | Request::Unpost(_) | Request::Mark(_) => Right::Post,
         Request::Manual(_) | Request::Activity(_) => Right::Manual,
         Request::Close(_) | Request::Sweep(_) => Right::Admin,
-        Request::Balance(_) | Request::Doc(_) => Right::Read,
+        Request::Balance(_) | Request::Turnovers(_) | Request::Both(_) => Right::Read,
+        Request::AccountBalance(_) | Request::AccountTurnovers(_) => Right::Read,
+        Request::AccountBoth(_) | Request::DrCr(_) => Right::Read,
+        Request::Documents(_) | Request::Doc(_) => Right::Read,
     }
 }
 
@@ -49,7 +58,10 @@ pub(crate) fn number_of(request: &Request) -> Option<u32>
         Request::Manual(manual) => Some(manual.no),
         Request::Close(close) => Some(close.no),
         Request::Sweep(sweep) => Some(sweep.no),
-        Request::Balance(_) | Request::Doc(_) => None,
+        Request::Balance(_) | Request::Turnovers(_) | Request::Both(_) => None,
+        Request::AccountBalance(_) | Request::AccountTurnovers(_) => None,
+        Request::AccountBoth(_) | Request::DrCr(_) => None,
+        Request::Documents(_) | Request::Doc(_) => None,
     }
 }
 

@@ -75,7 +75,14 @@ impl Desk {
             Request::Activity(switch) => self.activity_outcome(alloc, switch),
             Request::Close(close) => Ok(close_outcome(close.date)),
             Request::Sweep(sweep) => self.sweep_outcome(alloc, sweep),
-            Request::Balance(balance) => self.balance_outcome(alloc, balance),
+            Request::Balance(question) => self.balance_outcome(alloc, question),
+            Request::Turnovers(question) => self.turnovers_outcome(alloc, question),
+            Request::Both(question) => self.both_outcome(alloc, question),
+            Request::AccountBalance(question) => self.account_balance_outcome(alloc, question),
+            Request::AccountTurnovers(question) => self.account_turnovers_outcome(alloc, question),
+            Request::AccountBoth(question) => self.account_both_outcome(alloc, question),
+            Request::DrCr(question) => self.pairs_outcome(alloc, question),
+            Request::Documents(question) => self.documents_outcome(alloc, question),
             Request::Doc(question) => self.show_outcome(alloc, question),
         }
     }

@@ -97,7 +97,8 @@ impl Desk {
 
     /// The configuration that the desk was opened with.
     pub fn config(&self) -> &Config
-        ensures { result.now ≡ self.now.desk.setting.config }
+        ensures value { result.now ≡ self.now.desk.setting.config }
+        ensures limits { IsWithinLimits result.now }
     {
         &self.config
     }

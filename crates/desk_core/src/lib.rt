@@ -25,7 +25,6 @@ mod numbers;
 mod outcome;
 mod questions;
 mod room;
-mod rows;
 
 pub use desk::{Desk, StepEnd};
 pub use limits::{MOST_DOCUMENTS, MOST_KEPT_RECORDS, MOST_LINES};

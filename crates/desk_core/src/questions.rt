@@ -1,83 +1,128 @@
 //! Questions that a desk answers.
-ghost use Rattle.std.specs.Prelude.{◌≡◌, map, IfOk};
-ghost use Rattle.desk_words.specs.declared.request.Request.TheVariants as RequestIs;
-ghost use Rattle.desk_model.specs.Questions.{question_balance, question_doc};
-ghost use Rattle.desk_model.specs.Stops.{or_stop};
-ghost use Rattle.desk_model.specs.Serial.{document_answer, question_answer};
-ghost use Rattle.desk_core.specs.Outcomes.{Comes, IsAnswer, deed_at};
+ghost use Rattle.std.specs.Prelude.{◌≡◌, ◌<◌, ◌^◌, length, IfOk, Result};
+ghost use Rattle.std.specs.List.{All};
+ghost use Rattle.reg_base.specs.Documents.{HasShortSets};
 ghost use Rattle.reg_base.specs.Tries.{Tries};
+ghost use Rattle.desk_words.specs.declared.reply.Refusal.{Refusal as RefusalOf};
+ghost use Rattle.desk_words.specs.declared.request.Request.TheVariants as RequestIs;
+ghost use Rattle.desk_model.specs.Plans.{Question};
+ghost use Rattle.desk_model.specs.Questions.{IsAnswer, question_doc};
+ghost use Rattle.desk_model.specs.State.{Desk as DeskOf};
+ghost use Rattle.desk_model.specs.Stops.{or_stop};
+ghost use Rattle.desk_model.specs.Serial.{question_answer, question_effect};
+ghost use Rattle.desk_core.specs.Outcomes.{Comes, deed_at};
 
 use crate::desk::Desk;
 use crate::outcome::{Outcome, refusal_outcome};
-use crate::rows::all_rows;
-use cfg_model::Resource;
-use desk_plans::{PartFault, Tried, shown_document, wrong};
-use desk_words::{Answer, Balance, DocQuestion, Field, Refusal, Reply};
-use reg_base::{Cut, List, Memory, Scale};
+use desk_plans::{PartFault, Tried, shown_document};
+use desk_tables::{
+    answer_account_balance, answer_account_both, answer_account_turnovers, answer_balance,
+    answer_both, answer_documents, answer_pairs, answer_turnovers,
+};
+use desk_words::{
+    AccountBalance, AccountTurnovers, Answer, Balance, Both, DocQuestion, DocumentsQuestion, DrCr,
+    Refusal, Reply, Turnovers,
+};
+use doc_store::Documents;
+use reg_base::Memory;
 use std::alloc::Global;
 
 impl Desk {
-    // What a question for a balance comes to.
-    #[tactic(auto, unfolding(desk_model::specs::Serial::question_effect))]
     pub(crate) fn balance_outcome(
         &self,
         alloc: Global,
-        balance: &Balance,
+        question: &Balance,
     ) -> Result<Outcome, Memory>
         ensures { IfOk result (Comes self.now.desk
-            (or_stop (deed_at self.now.desk (RequestIs.Balance balance.now)))) }
+            (or_stop (deed_at self.now.desk (RequestIs.Balance question.now)))) }
     {
-        match self.answer_balance(alloc, balance) {
-            Ok(answer) => Ok(Outcome::Replies(Reply::Done(answer))),
-            Err(PartFault::Refused(refusal)) => Ok(refusal_outcome(refusal)),
-            Err(PartFault::Memory) => Err(Memory),
-        }
+        answered(answer_balance(alloc, self.config(), self.walk(), question))
     }
 
-    // The rows of a balance of all the register's records.
-    #[tactic(auto, unfolding(desk_model::specs::Questions::question_balance, desk_model::specs::Serial::question_answer))]
-    fn answer_balance(&self, alloc: Global, balance: &Balance) -> Tried<Answer>
-        ensures value { Tries result (question_answer self.now.desk.serial
-            (question_balance self.now.desk.setting.config balance.now)) }
-        ensures answer { IfOk result IsAnswer }
+    pub(crate) fn turnovers_outcome(
+        &self,
+        alloc: Global,
+        question: &Turnovers,
+    ) -> Result<Outcome, Memory>
+        ensures { IfOk result (Comes self.now.desk
+            (or_stop (deed_at self.now.desk (RequestIs.Turnovers question.now)))) }
     {
-        let Some(place) = self.config.register_place(&balance.register) else {
-            return Err(wrong(Field::Register));
-        };
-        let Some(register) = self.config.registers.get(place) else {
-            return Err(wrong(Field::Register));
-        };
-        if !register.balance {
-            return Err(wrong(Field::Register));
-        }
-        let cut = balance.cut.unwrap_or(Cut::Now);
-        let resources = register.resources.as_slice();
-        let rows = all_rows(alloc, self.store.walk(), place, resources.len(), &cut)?;
-        let scales = scales_of(alloc, resources)?;
-        Ok(Answer::Balance { rows, scales })
+        answered(answer_turnovers(alloc, self.config(), self.walk(), question))
     }
 
-    // What a question for a document comes to.
-    #[tactic(auto, unfolding(desk_model::specs::Serial::document_effect))]
+    pub(crate) fn both_outcome(&self, alloc: Global, question: &Both) -> Result<Outcome, Memory>
+        ensures { IfOk result (Comes self.now.desk
+            (or_stop (deed_at self.now.desk (RequestIs.Both question.now)))) }
+    {
+        answered(answer_both(alloc, self.config(), self.walk(), question))
+    }
+
+    pub(crate) fn account_balance_outcome(
+        &self,
+        alloc: Global,
+        question: &AccountBalance,
+    ) -> Result<Outcome, Memory>
+        ensures { IfOk result (Comes self.now.desk
+            (or_stop (deed_at self.now.desk (RequestIs.AccountBalance question.now)))) }
+    {
+        answered(answer_account_balance(alloc, self.config(), self.walk(), question))
+    }
+
+    pub(crate) fn account_turnovers_outcome(
+        &self,
+        alloc: Global,
+        question: &AccountTurnovers,
+    ) -> Result<Outcome, Memory>
+        ensures { IfOk result (Comes self.now.desk
+            (or_stop (deed_at self.now.desk (RequestIs.AccountTurnovers question.now)))) }
+    {
+        answered(answer_account_turnovers(alloc, self.config(), self.walk(), question))
+    }
+
+    pub(crate) fn account_both_outcome(
+        &self,
+        alloc: Global,
+        question: &AccountTurnovers,
+    ) -> Result<Outcome, Memory>
+        ensures { IfOk result (Comes self.now.desk
+            (or_stop (deed_at self.now.desk (RequestIs.AccountBoth question.now)))) }
+    {
+        answered(answer_account_both(alloc, self.config(), self.walk(), question))
+    }
+
+    pub(crate) fn pairs_outcome(&self, alloc: Global, question: &DrCr) -> Result<Outcome, Memory>
+        ensures { IfOk result (Comes self.now.desk
+            (or_stop (deed_at self.now.desk (RequestIs.DrCr question.now)))) }
+    {
+        answered(answer_pairs(alloc, self.config(), self.walk(), question))
+    }
+
+    pub(crate) fn documents_outcome(
+        &self,
+        alloc: Global,
+        question: &DocumentsQuestion,
+    ) -> Result<Outcome, Memory>
+        ensures { IfOk result (Comes self.now.desk
+            (or_stop (deed_at self.now.desk (RequestIs.Documents question.now)))) }
+    {
+        answered(answer_documents(alloc, self.config(), &self.store, question))
+    }
+
     pub(crate) fn show_outcome(
         &self,
         alloc: Global,
         question: &DocQuestion,
     ) -> Result<Outcome, Memory>
-        ensures { IfOk result
-            (Comes self.now.desk (or_stop (deed_at self.now.desk (RequestIs.Doc question.now)))) }
+        ensures { IfOk result (Comes self.now.desk
+            (or_stop (deed_at self.now.desk (RequestIs.Doc question.now)))) }
     {
-        match self.show(alloc, question) {
-            Ok(answer) => Ok(Outcome::Replies(Reply::Done(answer))),
-            Err(PartFault::Refused(refusal)) => Ok(refusal_outcome(refusal)),
-            Err(PartFault::Memory) => Err(Memory),
-        }
+        answered(self.show(alloc, question))
     }
 
     // The document as it is shown.
-    #[tactic(auto, unfolding(desk_model::specs::Serial::document_answer))]
+    #[tactic(auto, unfolding(desk_model::specs::Serial::question_answer, desk_model::specs::Serial::answer_to))]
     fn show(&self, alloc: Global, question: &DocQuestion) -> Tried<Answer>
-        ensures value { Tries result (document_answer self.now.desk.serial
+        ensures value { Tries result (question_answer self.now.desk.serial.documents
             (question_doc self.now.desk.setting.config question.now)) }
         ensures answer { IfOk result IsAnswer }
     {
@@ -87,14 +132,27 @@ impl Desk {
         let shown = shown_document(alloc, &self.config, document)?;
         Ok(Answer::Shown(shown))
     }
+
+    // The documents, in order of number.
+    fn walk(&self) -> Documents<'_>
+        ensures value { result ≡ self.now.desk.serial.documents }
+        ensures few { length result < 2 ^ 32 }
+        ensures short { All HasShortSets result }
+    {
+        self.store.walk()
+    }
 }
 
-fn scales_of(alloc: Global, resources: &[Resource]) -> Result<List<Scale>, Memory>
-    ensures { IfOk result (λ scales. scales ≡ map (λ r. r.scale) resources.now) }
+// What a question comes to that was answered, or refused.
+fn answered(tried: Tried<Answer>) -> Result<Outcome, Memory>
+    requires { IfOk tried IsAnswer }
+    ensures { (desk : DeskOf) (question : Result Question RefusalOf)
+        → Tries tried (question_answer desk.serial.documents question)
+        → IfOk result (Comes desk (or_stop (question_effect desk.serial question))) }
 {
-    let mut scales = Vec::new(alloc);
-    'resources: for resource in resources {
-        scales.push(resource.scale)?;
+    match tried {
+        Ok(answer) => Ok(Outcome::Replies(Reply::Done(answer))),
+        Err(PartFault::Refused(refusal)) => Ok(refusal_outcome(refusal)),
+        Err(PartFault::Memory) => Err(Memory),
     }
-    Ok(List::from_vec(scales))
 }

@@ -2,6 +2,7 @@ pub mod ErrorLemmas
 pub mod ForAbove
 pub mod LawLemmas
 pub mod NumberLemmas
+pub mod QuestionLemmas
 pub mod RefusalScales
 pub mod RepeatLemmas
 pub mod RowBooks
@@ -15,3 +16,5 @@ pub mod WorkedRows
 pub mod ReplayLemmas
 pub mod ScaleLemmas
 pub mod StepCases
+pub mod TableLemmas
+pub mod TableScales

@@ -27,7 +27,7 @@ use Rattle.desk_model.specs.Answers.{refusal_event, event_of_reading}
 use Rattle.desk_model.specs.Answers.{line_event, line_desk, desk_after}
 use Rattle.desk_model.specs.Laws.{Commits, NumbersRise, NoneCommits, RepeatsChangeNothing}
 use Rattle.desk_model.specs.Laws.{RepeatsAreAnswered, LawsHold}
-use Rattle.desk_model.proofs.LawLemmas.{BalancesHold-always}
+use Rattle.desk_model.proofs.TableLemmas.{TablesHold-always}
 use Rattle.desk_model.proofs.StepCases.{IsAbove}
 use Rattle.desk_model.proofs.NumberLemmas.{bytes_eq-same, last_of-put, last_of-other}
 use Rattle.desk_model.proofs.NumberLemmas.{StaysAt, EntersAt, line-comes, HasReached}
@@ -325,7 +325,7 @@ RepeatsAreAnswered-always desk lines =
 
 pub LawsHold-always : (desk : Desk) (lines : List Line) → LawsHold desk lines
 LawsHold-always desk lines = record {
-  balances = BalancesHold-always desk lines;
+  tables = TablesHold-always desk lines;
   order = NumbersRise-always desk lines;
   once = RepeatsChangeNothing-always desk lines;
   repeats = RepeatsAreAnswered-always desk lines;

@@ -13,15 +13,16 @@ use Rattle.desk_words.specs.declared.request.Request.{Request}
 use Rattle.desk_words.specs.declared.reply.Refusal.{Refusal}
 use Rattle.desk_words.specs.declared.request.Request.TheVariants.{Write, Post, Unpost, Mark, Manual}
 use Rattle.desk_words.specs.declared.request.Request.TheVariants.{Activity, Close, Sweep, Balance}
-use Rattle.desk_words.specs.declared.request.Request.TheVariants.{Doc}
+use Rattle.desk_words.specs.declared.request.Request.TheVariants.{Doc, Turnovers, Both, Documents}
+use Rattle.desk_words.specs.declared.request.Request.TheVariants.{AccountBalance, AccountTurnovers}
+use Rattle.desk_words.specs.declared.request.Request.TheVariants.{AccountBoth, DrCr}
 use Rattle.desk_words.specs.declared.request.Post.TheVariants.{Content, Standing}
 use Rattle.desk_words.specs.declared.reply.Refusal.TheVariants.{UnknownClerk, NotAllowed, Limit}
 use Rattle.desk_words.specs.declared.reply.Limit.TheVariants.{Documents, Lines, Numbers}
 use Rattle.reg_base.specs.Documents.{document_at}
 use Rattle.desk_model.specs.declared.plan.Plan.{Plan}
 use Rattle.desk_model.specs.State.{Setting, State, Desk}
-use Rattle.desk_model.specs.Plans.{Sight, Change, Deed, changes, closes, asks_register}
-use Rattle.desk_model.specs.Plans.{asks_document}
+use Rattle.desk_model.specs.Plans.{Sight, Change, Deed, changes, closes, asks}
 use Rattle.desk_model.specs.Effects.{Effect, Tests, no_tests, effect_with}
 use Rattle.desk_model.specs.Stops.{Stop, refuses, or_stop}
 use Rattle.desk_model.specs.Limits.{greatest_number, most_documents, most_lines, within_limit}
@@ -116,8 +117,7 @@ deed_effect-no_tests : (tests : Tests) (setting : Setting) (state : State) (numb
 deed_effect-no_tests tests setting state number (changes change) effect h =
     (change_effect-passes tests setting state number change effect h).same
 deed_effect-no_tests tests setting state number (closes date) effect h = h
-deed_effect-no_tests tests setting state number (asks_register question) effect h = h
-deed_effect-no_tests tests setting state number (asks_document question) effect h = h
+deed_effect-no_tests tests setting state number (asks question) effect h = h
 
 -- ---- a number that was drawn is free
 
@@ -174,6 +174,13 @@ drawn-at desk (Activity m) effect numbered h = refl
 drawn-at desk (Close c) effect numbered h = refl
 drawn-at desk (Sweep s) effect numbered h = refl
 drawn-at desk (Balance b) effect numbered h = refl
+drawn-at desk (Turnovers t) effect numbered h = refl
+drawn-at desk (Both b) effect numbered h = refl
+drawn-at desk (AccountBalance b) effect numbered h = refl
+drawn-at desk (AccountTurnovers t) effect numbered h = refl
+drawn-at desk (AccountBoth t) effect numbered h = refl
+drawn-at desk (DrCr q) effect numbered h = refl
+drawn-at desk (Documents q) effect numbered h = refl
 drawn-at desk (Doc q) effect numbered h = refl
 
 -- a stop is no effect

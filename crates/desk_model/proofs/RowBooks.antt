@@ -355,9 +355,7 @@ sweep nr doc = Sweep (record { clerk = codes "anna"; no = nr; doc = doc })
 abbrev pub balance_at : List ℕ → Option Cut → Request
 balance_at register cut = Balance (record {
   clerk = codes "anna";
-  register = register;
-  filter = None;
-  group = None;
+  register = record { name = register; filter = None; group = None };
   cut = cut;
   tx = None;
 })

@@ -2,51 +2,37 @@
 use Rattle.std.proofs.Common.{◌≡◌, ℕ, Bool, true, false, Option, Some, None, List, map}
 use Rattle.std.proofs.Common.{length, All, Result, Ok, Err, IfErr, IfOk, ◌∙◌, sym}
 use Rattle.std.proofs.Common.{unwrap_or, slice_get}
-use Rattle.std.proofs.lemmas.List.{length-map}
-use Rattle.std.proofs.lemmas.List.Elements.{All-filter, All-map}
-use Rattle.std.proofs.lemmas.List.FromFn.{length-map-range_with_len}
 use Rattle.reg_base.specs.declared.records.Document.{Document}
-use Rattle.reg_base.specs.declared.records.SumRow.{SumRow}
-use Rattle.reg_base.specs.declared.cut.Cut.TheVariants.{Now}
-use Rattle.reg_base.specs.Documents.{document_at}
 use Rattle.reg_base.specs.Results.{◌>>=◌, unless, some_or, none_or}
-use Rattle.reg_base.specs.Records.{Booked, records_within, chosen_records, records_of}
-use Rattle.reg_base.specs.Balances.{sum_rows, row_of, groups_of, is_shown, total}
-use Rattle.cfg_model.specs.declared.config.Config.{Config}
-use Rattle.cfg_model.specs.declared.register.Register.{Register}
-use Rattle.cfg_model.specs.declared.register.Resource.{Resource}
-use Rattle.cfg_model.specs.Places.{register_place}
 use Rattle.desk_words.specs.declared.request.Request.{Request}
 use Rattle.desk_words.specs.declared.request.Request.TheVariants.{Write, Post, Unpost, Mark, Manual}
 use Rattle.desk_words.specs.declared.request.Request.TheVariants.{Activity, Close, Sweep, Balance}
-use Rattle.desk_words.specs.declared.request.Request.TheVariants.{Doc}
+use Rattle.desk_words.specs.declared.request.Request.TheVariants.{Doc, Turnovers, Both, Documents}
+use Rattle.desk_words.specs.declared.request.Request.TheVariants.{AccountBalance, AccountTurnovers}
+use Rattle.desk_words.specs.declared.request.Request.TheVariants.{AccountBoth, DrCr}
 use Rattle.desk_words.specs.declared.request.Post.TheVariants.{Content, Standing}
-use Rattle.desk_words.specs.declared.request.Balance.{Balance as BalanceRequest}
-use Rattle.desk_words.specs.declared.reply.Answer.TheVariants.{Balance as BalanceAnswer}
 use Rattle.desk_words.specs.declared.reply.Refusal.{Refusal}
 use Rattle.desk_words.specs.declared.reply.Refusal.TheVariants.{UnknownClerk, NotAllowed, Stale}
-use Rattle.desk_words.specs.declared.reply.Refusal.TheVariants.{UnknownDoc, BadField}
 use Rattle.desk_model.specs.declared.last.Last.{Last}
 use Rattle.desk_model.specs.LastRequests.{is_same, last_of, same_number, number_after, number_test}
 use Rattle.std.specs.Str.{bytes_eq}
 use Rattle.std.specs.Ordering.{nat_cmp, match_ordering}
 use Rattle.std.specs.declared.cmp.Ordering.{Ordering}
 use Rattle.std.specs.declared.cmp.Ordering.TheVariants.{Less, Equal, Greater}
-use Rattle.desk_words.specs.declared.reply.Field.TheVariants.{Register as RegisterField}
 use Rattle.desk_words.specs.ReplyTexts.{HasScales, AnswerHasScales, RefusalHasScales}
 use Rattle.desk_model.specs.State.{Setting, State, Desk, Command}
 use Rattle.desk_model.specs.declared.plan.Plan.{Plan}
-use Rattle.desk_model.specs.Plans.{Sight, Change, Question, DocumentQuestion, Meaning}
-use Rattle.desk_model.specs.Questions.{everything, question_balance, question_doc}
+use Rattle.desk_model.specs.Plans.{Sight, Change, Meaning}
 use Rattle.desk_model.specs.Effects.{Effect, Tests, documents_with}
 use Rattle.desk_model.specs.Stops.{Stop, refuses, or_stop}
 use Rattle.desk_model.specs.Controls.{control_fault}
 use Rattle.desk_model.specs.Serial.{sight_of, made_at, work_effect, plan_effect, change_effect}
-use Rattle.desk_model.specs.Serial.{question_answer}
-use Rattle.desk_model.specs.Serial.{question_effect, answer_effect, document_answer}
-use Rattle.desk_model.specs.Serial.{document_effect, deed_effect, effect_of}
+use Rattle.desk_model.specs.Serial.{deed_effect, effect_of}
 use Rattle.desk_model.specs.Clerks.{is_clerk, is_allowed}
 use Rattle.desk_model.specs.Desk.{meaning_at, command_at, tests_of, event_of, step}
+use Rattle.desk_model.proofs.TableScales.{AreFine, balance-fine, turnovers-fine, both-fine}
+use Rattle.desk_model.proofs.TableScales.{account_balance-fine, account_turnovers-fine}
+use Rattle.desk_model.proofs.TableScales.{account_both-fine, pairs-fine, documents-fine, doc-fine}
 use Rattle.desk_model.proofs.ErrorLemmas.{IfOk-last, IfErr-then}
 use Rattle.desk_model.proofs.RefusalScales.{Plainly, plan_write-plainly, plan_mark-plainly}
 use Rattle.desk_model.proofs.RefusalScales.{plan_manual-plainly, plan_activity-plainly}
@@ -56,11 +42,6 @@ use Rattle.desk_model.proofs.RuleScales.{plan_post-plainly, plan_standing-plainl
 use Rattle.desk_model.proofs.RuleScales.{plan_unpost-plainly}
 
 -- ---- effects
-
--- an answer and a refusal have scales
-record AreFine (tried : Result Effect Refusal) : Type 0 where
-  answer : IfOk tried (λ effect. AnswerHasScales effect.answer)
-  refusal : IfErr tried RefusalHasScales
 
 change_effect-fine : (tests : Tests) (setting : Setting) (state : State) (number : ℕ)
     (change : Change) → ((sight : Sight) (plan : Plan) (made : Result (Option Document) Refusal) →
@@ -97,79 +78,6 @@ change_effect-fine tests setting state number change of_limits of_plan = record 
     Answers : Effect → Type 0
     Answers effect = AnswerHasScales effect.answer
 
--- a row has a sum for each resource
-rows-scales : (resources : ℕ) (records : List Booked) →
-    All (λ row. length row.sums ≡ resources) (sum_rows resources None records)
-unfolding sum_rows
-rows-scales resources records =
-    let P : SumRow → Type 0 = λ row. length row.sums ≡ resources in
-    All-filter is_shown P (map (row_of resources None records) (groups_of None records))
-    (All-map P (row_of resources None records) (groups_of None records)
-    (λ k d below. length-map-range_with_len (total None _ records) 0 resources))
-
-balance-scales : (register : Register) (records : List Booked) →
-    AnswerHasScales (BalanceAnswer (sum_rows (length register.resources) None records)
-    (map (λ r. r.scale) register.resources))
-balance-scales register records =
-    let same : length register.resources ≡ length
-    (map (λ (r : Resource). r.scale) register.resources) =
-    sym (length-map register.resources (λ (r : Resource). r.scale)) in
-    λ k d below. rows-scales (length register.resources) records k d below ∙ same
-
-module _ (config : Config) (state : State) (b : BalanceRequest) where
-  -- the question about a register that was found
-  asked : ℕ → Register → Question
-  asked place register = record {
-    register = place;
-    asked = everything register;
-    answer = λ records. BalanceAnswer
-        (sum_rows (length register.resources) None (records_within (unwrap_or b.cut Now) records))
-        (map (λ r. r.scale) register.resources);
-  }
-
-  at_register : (place : ℕ) (register : Register) (balance : Bool) →
-      AreFine (question_effect state
-      (unless balance (BadField RegisterField) >>= λ _. Ok (asked place register)))
-  unfolding asked question_effect question_answer
-  at_register place register true = record {
-    answer = balance-scales register
-        (records_within (unwrap_or b.cut Now)
-        (chosen_records (everything register) (records_of place state.documents)));
-    refusal = tt;
-  }
-  at_register place register false = record { answer = tt; refusal = tt }
-
-  at_place : (place : ℕ) (found : Option Register) →
-      AreFine (question_effect state
-      (some_or found (BadField RegisterField) >>= λ register. unless register.balance
-      (BadField RegisterField) >>= λ _. Ok (asked place register)))
-  unfolding asked question_effect question_answer
-  at_place place (Some register) = at_register place register register.balance
-  at_place place None = record { answer = tt; refusal = tt }
-
-  at_name : (place : Option ℕ) →
-      AreFine (question_effect state
-      (some_or place (BadField RegisterField) >>= λ p. some_or (slice_get config.registers p)
-      (BadField RegisterField) >>= λ register. unless register.balance
-      (BadField RegisterField) >>= λ _. Ok (asked p register)))
-  unfolding asked question_effect question_answer
-  at_name (Some place) = at_place place (slice_get config.registers place)
-  at_name None = record { answer = tt; refusal = tt }
-
-  question-fine : AreFine (question_effect state (question_balance config b))
-  unfolding asked question_balance
-  question-fine = at_name (register_place b.register config.registers)
-
-document-fine : (state : State) (q : DocumentQuestion) →
-    ((d : Document) → AnswerHasScales (q.answer d)) → AreFine (document_effect state q)
-unfolding document_effect document_answer
-document-fine state q shows = at (document_at q.doc state.documents)
-  where
-    at : (found : Option Document) → AreFine
-        ((some_or found UnknownDoc >>= λ d. Ok (q.answer d)) >>= λ a. Ok (answer_effect state a))
-    at (Some d) = record { answer = shows d; refusal = tt }
-    at None = record { answer = tt; refusal = tt }
-
 -- a change at a desk
 change-fine : (desk : Desk) (request : Request) (number : ℕ) (change : Change) →
     ((sight : Sight) → Plainly (change.plan sight)) →
@@ -196,9 +104,15 @@ deed-fine desk (Manual m) =
 deed-fine desk (Activity m) = change-fine desk (Activity m) _ _ (plan_activity-plainly m)
 deed-fine desk (Close c) = record { answer = tt; refusal = tt }
 deed-fine desk (Sweep s) = change-fine desk (Sweep s) _ _ plan_sweep-plainly
-deed-fine desk (Balance b) = question-fine desk.setting.config desk.serial b
-deed-fine desk (Doc q) =
-    document-fine desk.serial (question_doc desk.setting.config q) (λ d. tt)
+deed-fine desk (Balance b) = balance-fine desk.setting.config desk.serial b
+deed-fine desk (Turnovers t) = turnovers-fine desk.setting.config desk.serial t
+deed-fine desk (Both b) = both-fine desk.setting.config desk.serial b
+deed-fine desk (AccountBalance b) = account_balance-fine desk.setting.config desk.serial b
+deed-fine desk (AccountTurnovers t) = account_turnovers-fine desk.setting.config desk.serial t
+deed-fine desk (AccountBoth t) = account_both-fine desk.setting.config desk.serial t
+deed-fine desk (DrCr q) = pairs-fine desk.setting.config desk.serial q
+deed-fine desk (Documents q) = documents-fine desk.setting.config desk.serial q
+deed-fine desk (Doc q) = doc-fine desk.setting.config desk.serial q
 
 event-scales : (desk : Desk) (meaning : Meaning) (command : Command)
     (tried : Result Effect Refusal) → AreFine tried →

@@ -12,7 +12,9 @@ use Rattle.reg_base.specs.Results.{◌>>=◌, unless, none_or}
 use Rattle.desk_words.specs.declared.request.Request.{Request}
 use Rattle.desk_words.specs.declared.request.Request.TheVariants.{Write, Post, Unpost, Mark, Manual}
 use Rattle.desk_words.specs.declared.request.Request.TheVariants.{Activity, Close, Sweep, Balance}
-use Rattle.desk_words.specs.declared.request.Request.TheVariants.{Doc}
+use Rattle.desk_words.specs.declared.request.Request.TheVariants.{Doc, Turnovers, Both, Documents}
+use Rattle.desk_words.specs.declared.request.Request.TheVariants.{AccountBalance, AccountTurnovers}
+use Rattle.desk_words.specs.declared.request.Request.TheVariants.{AccountBoth, DrCr}
 use Rattle.desk_words.specs.declared.request.Post.TheVariants.{Content, Standing}
 use Rattle.desk_words.specs.declared.reply.Acknowledgement.{Acknowledgement}
 use Rattle.desk_words.specs.declared.reply.Answer.{Answer}
@@ -26,17 +28,18 @@ use Rattle.desk_model.specs.Stops.{Stop, refuses, or_stop}
 use Rattle.desk_model.specs.Clerks.{is_clerk, is_allowed}
 use Rattle.desk_model.specs.LastRequests.{is_same, last_of, with_last, same_number, number_after}
 use Rattle.desk_model.specs.LastRequests.{number_test}
-use Rattle.desk_model.specs.Plans.{Change, Deed, changes, closes, asks_register, asks_document}
-use Rattle.desk_model.specs.Plans.{Meaning}
+use Rattle.desk_model.specs.Plans.{Change, Question, Deed, Meaning, changes, closes, asks}
 use Rattle.desk_model.specs.Meanings.{asking}
-use Rattle.desk_model.specs.Questions.{question_balance, question_doc}
+use Rattle.desk_model.specs.Questions.{question_doc, question_documents}
+use Rattle.desk_model.specs.RegisterQuestions.{question_balance, question_turnovers, question_both}
+use Rattle.desk_model.specs.LedgerQuestions.{question_account_balance, question_account_turnovers}
+use Rattle.desk_model.specs.LedgerQuestions.{question_account_both, question_pairs}
 use Rattle.desk_model.specs.Effects.{Effect, Tests, close_effect}
 use Rattle.desk_model.specs.Controls.{control_fault}
 use Rattle.desk_model.specs.Effects.{documents_with}
 use Rattle.desk_model.specs.Serial.{sight_of, made_at, work_effect, plan_effect}
 use Rattle.desk_model.specs.Serial.{change_effect, answer_effect}
-use Rattle.desk_model.specs.Serial.{question_answer, question_effect, document_answer}
-use Rattle.desk_model.specs.Serial.{document_effect, effect_of}
+use Rattle.desk_model.specs.Serial.{question_answer, question_effect, effect_of}
 use Rattle.desk_model.specs.Desk.{Event, meaning_at, command_at, tests_of, commits_of, event_of}
 use Rattle.desk_model.specs.Desk.{step}
 use Rattle.desk_model.proofs.ErrorLemmas.{IfOk-last}
@@ -138,10 +141,6 @@ numbered_deed clerk right number draws deed = record {
 abbrev CommitsOne : Deed → Type 0
 CommitsOne deed = (command : Command) → commits_of deed command ≡ (command ∷ []) ∷ []
 
--- a deed commits nothing
-abbrev CommitsNone : Deed → Type 0
-CommitsNone deed = (command : Command) → commits_of deed command ≡ []
-
 module _ (desk : Desk) (r : Request) where
   deed-comes : (clerk : List ℕ) (right : Right) (number : ℕ) (draws : Bool) (deed : Deed) →
       (known allowed : Bool) (numbered : Result (Unit {0}) Stop) (done : Result Effect Refusal) →
@@ -188,20 +187,24 @@ module _ (desk : Desk) (r : Request) where
       (numbered_deed clerk right number draws (changes change)) r) desk.setting
       desk.serial (command_at desk r).number change)
 
-  question-stays : (clerk : List ℕ) (deed : Deed) (known allowed : Bool)
-      (answer : Result Answer Refusal) → CommitsNone deed →
-      Stays desk (event_by desk (asking clerk deed) r known allowed (Ok tt)
-      (answer >>= λ a. Ok (answer_effect desk.serial a)))
-  question-stays clerk deed true true (Ok a) none =
-      record { commits_none = none (command_at desk r); same = refl }
-  question-stays clerk deed true true (Err refusal) none =
-      record { commits_none = refl; same = refl }
-  question-stays clerk deed true false answer none = record { commits_none = refl; same = refl }
-  question-stays clerk deed false allowed answer none = record { commits_none = refl; same = refl }
+  question-stays : (clerk : List ℕ) (question : Result Question Refusal) (known allowed : Bool) →
+      Stays desk (event_by desk (asking clerk question) r known allowed (Ok tt)
+      (question_effect desk.serial question))
+  unfolding question_effect
+  question-stays clerk question known allowed =
+      at known allowed (question_answer desk.serial.documents question)
+    where
+      at : (known allowed : Bool) (answer : Result Answer Refusal) →
+          Stays desk (event_by desk (asking clerk question) r known allowed (Ok tt)
+          (answer >>= λ a. Ok (answer_effect desk.serial a)))
+      at true true (Ok a) = record { commits_none = refl; same = refl }
+      at true true (Err refusal) = record { commits_none = refl; same = refl }
+      at true false answer = record { commits_none = refl; same = refl }
+      at false allowed answer = record { commits_none = refl; same = refl }
 
 -- each step stays or enters
 pub step-comes : (desk : Desk) (r : Request) → Comes desk (meaning_at desk r) r (step desk r)
-unfolding step effect_of question_effect document_effect
+unfolding step effect_of
 step-comes desk (Write w) = change-comes desk (Write w) w.clerk _ w.no _ _
 step-comes desk (Post (Content w)) =
     change-comes desk (Post (Content w)) w.clerk _ w.no _ _
@@ -216,11 +219,21 @@ step-comes desk (Close c) =
     (Ok (close_effect desk.serial c.date)) (λ command. refl) refl refl refl
     (record { acknowledgement = _; answer_is = refl; lasts_are = refl })
 step-comes desk (Sweep s) = change-comes desk (Sweep s) s.clerk _ s.no _ _
-step-comes desk (Balance b) =
-    inl (question-stays desk (Balance b) b.clerk
-    (asks_register (question_balance desk.setting.config b)) _ _
-    (question_answer desk.serial (question_balance desk.setting.config b)) (λ command. refl))
-step-comes desk (Doc q) =
-    inl (question-stays desk (Doc q) q.clerk
-    (asks_document (question_doc desk.setting.config q)) _ _
-    (document_answer desk.serial (question_doc desk.setting.config q)) (λ command. refl))
+step-comes desk (Balance b) = inl (question-stays desk (Balance b) b.clerk
+    (question_balance desk.setting.config b) _ _)
+step-comes desk (Turnovers t) = inl (question-stays desk (Turnovers t) t.clerk
+    (question_turnovers desk.setting.config t) _ _)
+step-comes desk (Both b) = inl (question-stays desk (Both b) b.turnovers.clerk
+    (question_both desk.setting.config b) _ _)
+step-comes desk (AccountBalance b) = inl (question-stays desk (AccountBalance b) b.clerk
+    (question_account_balance desk.setting.config b) _ _)
+step-comes desk (AccountTurnovers t) = inl (question-stays desk (AccountTurnovers t) t.clerk
+    (question_account_turnovers desk.setting.config t) _ _)
+step-comes desk (AccountBoth t) = inl (question-stays desk (AccountBoth t) t.clerk
+    (question_account_both desk.setting.config t) _ _)
+step-comes desk (DrCr q) = inl (question-stays desk (DrCr q) q.clerk
+    (question_pairs desk.setting.config q) _ _)
+step-comes desk (Documents q) = inl (question-stays desk (Documents q) q.clerk
+    (question_documents desk.setting.config q) _ _)
+step-comes desk (Doc q) = inl (question-stays desk (Doc q) q.clerk
+    (question_doc desk.setting.config q) _ _)

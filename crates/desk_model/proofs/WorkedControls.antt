@@ -39,11 +39,11 @@ use Rattle.desk_words.specs.declared.reply.Refusal.TheVariants.{Limit, Rule, Con
 use Rattle.desk_model.specs.Fields.{cells_of}
 use Rattle.desk_model.specs.Writes.{kind_of_request, content_of, plan_content}
 use Rattle.desk_model.specs.Posts.{plan_post, plan_standing, plan_unpost}
-use Rattle.desk_model.specs.Questions.{question_balance}
+use Rattle.desk_model.specs.RegisterQuestions.{question_about, question_balance}
 use Rattle.desk_model.specs.Limits.{limits_of}
 use Rattle.desk_model.specs.State.{Desk}
 use Rattle.desk_model.specs.Serial.{work_effect, plan_effect, change_effect, question_answer}
-use Rattle.desk_model.specs.Serial.{question_effect, effect_of}
+use Rattle.desk_model.specs.Serial.{question_effect, answer_to, effect_of}
 use Rattle.desk_model.specs.Desk.{step}
 use Rattle.desk_model.proofs.RowBooks.{shop, empty, tenth, eleventh, just, bound, each_line, once}
 use Rattle.desk_model.proofs.RowBooks.{filled, counted, post_goods, post_stock, stands, replies}
@@ -153,7 +153,8 @@ unfolding step effect_of change_effect plan_effect work_effect limits_of right_w
     all_in_stock taken write_off cost_of number_for numbers_for at_place record_made expenses_made
     checked entry_made entry_check account_at lot_places written_off act_on act_run statement_run
     round_run lines_run yield_of sum_rows
-    question_effect question_answer question_balance plan_standing plan_unpost
+    question_effect question_answer answer_to question_balance question_about
+    plan_standing plan_unpost
     five_in_goods take taken_again
 below_before = refl
 

@@ -27,10 +27,10 @@ use Rattle.desk_model.specs.RecordSets.{record_set}
 use Rattle.desk_model.specs.States.{plan_mark, plan_activity, plan_sweep}
 use Rattle.desk_model.specs.Fields.{cells_of}
 use Rattle.desk_model.specs.Writes.{kind_of_request, content_of, plan_content, plan_write}
-use Rattle.desk_model.specs.Questions.{question_balance}
+use Rattle.desk_model.specs.RegisterQuestions.{question_about, question_balance}
 use Rattle.desk_model.specs.Limits.{limits_of}
 use Rattle.desk_model.specs.Serial.{work_effect, plan_effect, change_effect, question_answer}
-use Rattle.desk_model.specs.Serial.{question_effect, effect_of}
+use Rattle.desk_model.specs.Serial.{question_effect, answer_to, effect_of}
 use Rattle.desk_model.specs.Desk.{step}
 use Rattle.desk_model.proofs.RowBooks.{empty, morning, tenth, eleventh, twelfth, fifteenth}
 use Rattle.desk_model.proofs.RowBooks.{february}
@@ -72,7 +72,7 @@ unfolding step effect_of change_effect plan_effect work_effect limits_of right_w
     plan_manual given_sets given_set space_of given_record record_in_register record_set is_code
     parse_num digits_from decimals_from last_digits_from units_of
     plan_mark plan_activity plan_sweep
-    question_effect question_answer question_balance sum_rows
+    question_effect question_answer answer_to question_balance question_about sum_rows
 mark_stays = refl
 
 -- a document of a type that is marked is written again once its mark is taken off
@@ -96,7 +96,7 @@ unfolding step effect_of change_effect plan_effect work_effect limits_of right_w
     plan_manual given_sets given_set space_of given_record record_in_register record_set is_code
     parse_num digits_from decimals_from last_digits_from units_of
     plan_mark plan_activity plan_sweep
-    question_effect question_answer question_balance sum_rows
+    question_effect question_answer answer_to question_balance question_about sum_rows
 activity_off_and_on = refl
 
 -- what is dated before the closed date is neither changed nor moved, nor is another moved before
@@ -174,7 +174,7 @@ unfolding step effect_of change_effect plan_effect work_effect limits_of right_w
     plan_manual given_sets given_set space_of given_record record_in_register record_set is_code
     parse_num digits_from decimals_from last_digits_from units_of
     plan_mark plan_activity plan_sweep
-    question_effect question_answer question_balance sum_rows
+    question_effect question_answer answer_to question_balance question_about sum_rows
 replaced_set = refl
 
 -- a comment that is not given again is empty

@@ -27,7 +27,7 @@ use Rattle.desk_model.specs.Fields.{cells_of}
 use Rattle.desk_model.specs.Writes.{kind_of_request, content_of, plan_content, plan_write}
 use Rattle.desk_model.specs.Limits.{limits_of}
 use Rattle.desk_model.specs.Serial.{work_effect, plan_effect, change_effect}
-use Rattle.desk_model.specs.Serial.{document_answer, document_effect}
+use Rattle.desk_model.specs.Serial.{question_effect, question_answer, answer_to}
 use Rattle.desk_model.specs.Serial.{effect_of}
 use Rattle.desk_model.specs.Desk.{step}
 use Rattle.desk_model.proofs.RowBooks.{empty, morning, tenth, of_register, of_ledger, side, set_of}
@@ -177,7 +177,7 @@ unfolding step effect_of change_effect plan_effect work_effect limits_of right_w
     plan_manual given_sets given_set space_of given_record record_in_register record_set is_code
     parse_num digits_from decimals_from last_digits_from units_of
     given_entry entry_in_ledger entry_at entry_check account_at
-    sum_text units_text number_text document_answer document_effect
+    sum_text units_text number_text question_effect question_answer answer_to
 shown_by_hand = refl
 
 -- a document of a type has its fields by name, with all decimals, and a written one no records
@@ -200,6 +200,6 @@ shown_of_type : replies (after empty
     })) ∷ []
 unfolding step effect_of change_effect plan_effect work_effect limits_of right_word
     plan_write plan_content kind_of_request content_of cells_of is_code parse_num digits_from
-    decimals_from last_digits_from units_of sum_text units_text number_text document_answer
-    document_effect
+    decimals_from last_digits_from units_of sum_text units_text number_text question_effect
+    question_answer answer_to
 shown_of_type = refl

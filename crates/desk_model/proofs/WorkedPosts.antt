@@ -46,12 +46,12 @@ use Rattle.desk_model.specs.States.{plan_mark, plan_sweep}
 use Rattle.desk_model.specs.Fields.{cells_of}
 use Rattle.desk_model.specs.Writes.{kind_of_request, content_of, plan_content, plan_write}
 use Rattle.desk_model.specs.Posts.{plan_post, plan_standing, plan_unpost}
-use Rattle.desk_model.specs.Questions.{question_balance}
+use Rattle.desk_model.specs.RegisterQuestions.{question_about, question_balance}
 use Rattle.desk_model.specs.Limits.{limits_of}
 use Rattle.desk_model.specs.Effects.{Effect}
 use Rattle.desk_model.specs.State.{Desk}
 use Rattle.desk_model.specs.Serial.{work_effect, plan_effect, change_effect, question_answer}
-use Rattle.desk_model.specs.Serial.{question_effect, document_answer, document_effect, effect_of}
+use Rattle.desk_model.specs.Serial.{question_effect, answer_to, effect_of}
 use Rattle.desk_model.specs.Serial.{SerialFault, serial}
 use Rattle.desk_model.specs.Desk.{step}
 use Rattle.desk_model.proofs.RowBooks.{shop, empty, morning, tenth, eleventh, twelfth, side}
@@ -122,7 +122,7 @@ unfolding step effect_of change_effect plan_effect work_effect limits_of right_w
     all_in_stock taken write_off cost_of number_for numbers_for at_place record_made expenses_made
     checked entry_made entry_check account_at lot_places written_off act_on act_run statement_run
     round_run lines_run yield_of sum_rows
-    question_effect question_answer question_balance
+    question_effect question_answer answer_to question_balance question_about
 at_one_second = refl
 
 -- receipts of ten for 100.00 and of five for 75.00 on the next day, and a sale of twelve
@@ -143,7 +143,7 @@ unfolding step effect_of change_effect plan_effect work_effect limits_of right_w
     all_in_stock taken write_off cost_of number_for numbers_for at_place record_made expenses_made
     checked entry_made entry_check account_at lot_places written_off act_on act_run statement_run
     round_run lines_run yield_of sum_rows
-    question_effect question_answer question_balance
+    question_effect question_answer answer_to question_balance question_about
     two_receipts sale
 sold = refl
 
@@ -235,7 +235,7 @@ unfolding step effect_of change_effect plan_effect work_effect limits_of right_w
     all_in_stock taken write_off cost_of number_for numbers_for at_place record_made expenses_made
     checked entry_made entry_check account_at lot_places written_off act_on act_run statement_run
     round_run lines_run yield_of sum_rows
-    question_effect question_answer question_balance
+    question_effect question_answer answer_to question_balance question_about
     issues
 nothing_left = refl
 
@@ -260,7 +260,7 @@ unfolding step effect_of change_effect plan_effect work_effect limits_of right_w
     all_in_stock taken write_off cost_of number_for numbers_for at_place record_made expenses_made
     checked entry_made entry_check account_at lot_places written_off act_on act_run statement_run
     round_run lines_run yield_of sum_rows
-    question_effect question_answer question_balance
+    question_effect question_answer answer_to question_balance question_about
     screws
 content_again = refl
 
@@ -277,9 +277,8 @@ unfolding step effect_of change_effect plan_effect work_effect limits_of right_w
     all_in_stock taken write_off cost_of number_for numbers_for at_place record_made expenses_made
     checked entry_made entry_check account_at lot_places written_off act_on act_run statement_run
     round_run lines_run yield_of sum_rows
-    question_effect question_answer question_balance
+    question_effect question_answer answer_to question_balance question_about
     plan_mark plan_sweep
-    document_effect document_answer
     screws
 posted_and_swept = refl
 
@@ -301,7 +300,7 @@ unfolding step effect_of change_effect plan_effect work_effect limits_of right_w
     all_in_stock taken write_off cost_of number_for numbers_for at_place record_made expenses_made
     checked entry_made entry_check account_at lot_places written_off act_on act_run statement_run
     round_run lines_run yield_of sum_rows
-    question_effect question_answer question_balance
+    question_effect question_answer answer_to question_balance question_about
     plan_write plan_standing plan_unpost
 written_and_posted = refl
 
@@ -327,7 +326,7 @@ unfolding step effect_of change_effect plan_effect work_effect limits_of right_w
     all_in_stock taken write_off cost_of number_for numbers_for at_place record_made expenses_made
     checked entry_made entry_check account_at lot_places written_off act_on act_run statement_run
     round_run lines_run yield_of sum_rows
-    question_effect question_answer question_balance
+    question_effect question_answer answer_to question_balance question_about
     plan_standing plan_unpost
 unposted_and_posted = refl
 

@@ -28,11 +28,12 @@ use Rattle.desk_model.specs.LastRequests.{same_number, number_test, is_same}
 use Rattle.desk_model.specs.Manuals.{space_of, given_set, given_sets, plan_manual}
 use Rattle.desk_model.specs.GivenRecords.{record_in_register, given_record}
 use Rattle.desk_model.specs.RecordSets.{record_set}
-use Rattle.desk_model.specs.Questions.{question_balance}
+use Rattle.desk_model.specs.RegisterQuestions.{question_about, question_balance}
 use Rattle.desk_model.specs.Limits.{limits_of}
 use Rattle.desk_model.specs.Effects.{Effect}
 use Rattle.desk_model.specs.Serial.{work_effect, plan_effect, change_effect, question_answer}
-use Rattle.desk_model.specs.Serial.{question_effect, effect_of, SerialFault, bad_number, serial}
+use Rattle.desk_model.specs.Serial.{question_effect, answer_to, effect_of, SerialFault}
+use Rattle.desk_model.specs.Serial.{bad_number, serial}
 use Rattle.desk_model.specs.Desk.{step}
 use Rattle.desk_model.proofs.RepeatLemmas.{step-same_number, same_number-same}
 use Rattle.desk_model.proofs.RowBooks.{shop, empty, morning, fifteenth, manual_at, nails_under}
@@ -52,16 +53,14 @@ first_day : replies empty
 unfolding step effect_of change_effect plan_effect work_effect limits_of right_word
     plan_manual given_sets given_set space_of given_record record_in_register record_set is_code
     parse_num digits_from decimals_from last_digits_from units_of
-    question_effect question_answer question_balance sum_rows
+    question_effect question_answer answer_to question_balance question_about sum_rows
 first_day = refl
 
 -- a balance of a register, as a clerk asks for it
 balance_of_clerk : List ℕ → List ℕ → Request
 balance_of_clerk clerk register = Balance (record {
   clerk = clerk;
-  register = register;
-  filter = None;
-  group = None;
+  register = record { name = register; filter = None; group = None };
   cut = None;
   tx = None;
 })
@@ -72,8 +71,8 @@ refused_questions : replies empty
     ∷ balance_of_clerk (codes "anna") (codes "sales")
     ∷ balance_of_clerk (codes "anna") (codes "main") ∷ [])
     ≡ Refused UnknownClerk ∷ bad_field RegisterField ∷ bad_field RegisterField ∷ []
-unfolding step effect_of right_word question_effect question_answer question_balance
-    balance_of_clerk
+unfolding step effect_of right_word question_effect question_answer answer_to question_balance
+    question_about balance_of_clerk
 refused_questions = refl
 
 -- without its right a clerk may not

@@ -6,7 +6,7 @@ use Rattle.desk_words.specs.declared.reply.Reply.{Reply}
 use Rattle.desk_words.specs.declared.reply.Reply.TheVariants.{Done, Refused}
 use Rattle.desk_words.specs.declared.reply.Answer.TheVariants.{Acknowledged}
 use Rattle.desk_model.specs.State.{State, Desk, Command}
-use Rattle.desk_model.specs.Plans.{Deed, Meaning, changes, closes, asks_register, asks_document}
+use Rattle.desk_model.specs.Plans.{Deed, Meaning, changes, closes, asks}
 use Rattle.desk_model.specs.Meanings.{meaning_of}
 use Rattle.desk_model.specs.Effects.{Effect, Tests}
 use Rattle.desk_model.specs.LastRequests.{number_test}
@@ -51,8 +51,7 @@ pub record Event : Type 0 where
 abbrev pub commits_of : Deed → Command → List (List Command)
 commits_of (changes change) command = (command ∷ []) ∷ []
 commits_of (closes date) command = (command ∷ []) ∷ []
-commits_of (asks_register question) command = []
-commits_of (asks_document question) command = []
+commits_of (asks question) command = []
 
 -- the reply where a request goes no further
 abbrev pub reply_at : Stop → Reply

@@ -8,6 +8,9 @@ use Rattle.desk_words.specs.RequestTexts.{request_text}
 use Rattle.desk_words.specs.declared.reply.Acknowledgement.{Acknowledgement}
 use Rattle.desk_words.specs.declared.reply.Answer.{Answer}
 use Rattle.desk_words.specs.declared.reply.Answer.TheVariants.{Acknowledged, Balance, Shown}
+use Rattle.desk_words.specs.declared.reply.Answer.TheVariants.{Turnovers, Both, AccountBalance}
+use Rattle.desk_words.specs.declared.reply.Answer.TheVariants.{AccountTurnovers, AccountBoth, DrCr}
+use Rattle.desk_words.specs.declared.reply.Answer.TheVariants.{Documents}
 use Rattle.desk_words.specs.declared.reply.Refusal.TheVariants.{Stale, NumberReused}
 use Rattle.desk_model.specs.declared.last.Last.{Last}
 use Rattle.desk_model.specs.Stops.{Stop, refuses, repeats}
@@ -28,6 +31,13 @@ with_last last (l ∷ ls) =
 abbrev pub lasts_with : List ℕ → Option ℕ → Request → Answer → List Last → List Last
 lasts_with clerk None request answer lasts = lasts
 lasts_with clerk (Some number) request (Balance rows scales) lasts = lasts
+lasts_with clerk (Some number) request (Turnovers balances rows scales) lasts = lasts
+lasts_with clerk (Some number) request (Both rows scales) lasts = lasts
+lasts_with clerk (Some number) request (AccountBalance rows scale) lasts = lasts
+lasts_with clerk (Some number) request (AccountTurnovers rows scale) lasts = lasts
+lasts_with clerk (Some number) request (AccountBoth rows scale) lasts = lasts
+lasts_with clerk (Some number) request (DrCr rows scale) lasts = lasts
+lasts_with clerk (Some number) request (Documents rows) lasts = lasts
 lasts_with clerk (Some number) request (Shown document) lasts = lasts
 lasts_with clerk (Some number) request (Acknowledged acknowledgement) lasts = with_last
     (record {

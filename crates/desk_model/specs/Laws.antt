@@ -1,52 +1,29 @@
--- What holds of every answer: an accepted balance is the sum over the records at its place, the
+-- What holds of every answer: an accepted table is the one asked for over what is at its place, the
 -- numbers of a clerk rise and a repeat changes nothing, a refusal changes nothing, and what is
 -- accepted replays.
-use Rattle.std.specs.Prelude.{◌≡◌, ℕ, ◌≤◌, ◌<◌, ⊤, true, false, None, Some, Ok, unwrap_or}
-use Rattle.std.specs.Prelude.{List, [], ◌∷◌, ◌++◌, All, length, map, slice_get}
-use Rattle.reg_base.specs.declared.cut.Cut.TheVariants.{Now}
-use Rattle.reg_base.specs.declared.records.SumRow.{SumRow}
+use Rattle.std.specs.Prelude.{◌≡◌, ℕ, ◌≤◌, ◌<◌, ⊤, false, Some, Ok, List, [], ◌∷◌, ◌++◌, All}
 use Rattle.reg_base.specs.declared.line.Line.{Line}
-use Rattle.reg_base.specs.Records.{records_of}
-use Rattle.reg_base.specs.Balances.{balance_of}
-use Rattle.cfg_model.specs.declared.register.Register.{Register}
-use Rattle.cfg_model.specs.Places.{register_place}
 use Rattle.desk_words.specs.declared.request.Request.{Request}
-use Rattle.desk_words.specs.declared.request.Request.TheVariants.{Balance}
-use Rattle.desk_words.specs.declared.request.Balance.{Balance as BalanceRequest}
 use Rattle.desk_words.specs.declared.reply.Reply.{Reply}
 use Rattle.desk_words.specs.declared.reply.Reply.TheVariants.{Done, Refused}
-use Rattle.desk_words.specs.declared.reply.Answer.TheVariants.{Balance as BalanceAnswer}
+use Rattle.desk_words.specs.declared.reply.Answer.{Answer}
 use Rattle.desk_words.specs.Reading.{request}
 use Rattle.desk_model.specs.State.{State, Desk, Command}
-use Rattle.desk_model.specs.Questions.{everything}
 use Rattle.desk_model.specs.Effects.{Effect}
 use Rattle.desk_model.specs.Serial.{serial}
+use Rattle.desk_model.specs.Tables.{IsTable}
 use Rattle.desk_model.specs.Desk.{meaning_at, effect_at, command_at}
 use Rattle.desk_model.specs.Answers.{is_blank_line, line_event, line_desk, desk_after}
 
--- the rows are the balance of the register that was named, which keeps balances, over the records
--- of the documents there are, and each sum has the scale of its resource
-pub record IsBalance (desk : Desk) (b : BalanceRequest) (rows : List SumRow)
-    (scales : List ℕ) : Type 0 where
-  pub place : ℕ
-  pub register : Register
-  pub named : register_place b.register desk.setting.config.registers ≡ Some place
-  pub found : slice_get desk.setting.config.registers place ≡ Some register
-  pub keeps : register.balance ≡ true
-  pub rows_are : rows ≡ balance_of (length register.resources)
-      (records_of place desk.serial.documents) (everything register) None (unwrap_or b.cut Now)
-  pub scales_are : scales ≡ map (λ r. r.scale) register.resources
-
--- each accepted balance among the lines is the balance at its place: over the documents that the
--- lines before it left
-abbrev pub BalancesHold : Desk → List Line → Type 0
-BalancesHold desk lines =
-    (before after : List Line) (line : Line) (b : BalanceRequest) (rows : List SumRow)
-    (scales : List ℕ)
+-- each accepted table among the lines is the one that was asked for, at its place: over the
+-- documents that the lines before it left
+abbrev pub TablesHold : Desk → List Line → Type 0
+TablesHold desk lines =
+    (before after : List Line) (line : Line) (asked : Request) (answer : Answer)
     → lines ≡ before ++ line ∷ after
-    → request line ≡ Ok (Balance b)
-    → (line_event (desk_after desk before) line).reply ≡ Done (BalanceAnswer rows scales)
-    → IsBalance (desk_after desk before) b rows scales
+    → request line ≡ Ok asked
+    → (line_event (desk_after desk before) line).reply ≡ Done answer
+    → IsTable (desk_after desk before) asked answer
 
 -- the reply is a refusal
 abbrev pub IsRefusal : Reply → Type 0
@@ -104,7 +81,7 @@ RepeatsAreAnswered desk lines =
 
 -- what holds of the lines that a desk answered
 pub record LawsHold (desk : Desk) (lines : List Line) : Type 0 where
-  pub balances : BalancesHold desk lines
+  pub tables : TablesHold desk lines
   pub order : NumbersRise desk lines
   pub once : RepeatsChangeNothing desk lines
   pub repeats : RepeatsAreAnswered desk lines

@@ -15,10 +15,13 @@ pub mod Meanings
 pub mod Plans
 pub mod Posts
 pub mod Questions
+pub mod RegisterQuestions
+pub mod LedgerQuestions
 pub mod RecordSets
 pub mod Serial
 pub mod Shown
 pub mod State
 pub mod States
 pub mod Stops
+pub mod Tables
 pub mod Writes

@@ -7,17 +7,21 @@ use Rattle.reg_base.specs.declared.right.Right.TheVariants.{Manual as ManualRigh
 use Rattle.desk_words.specs.declared.request.Request.{Request}
 use Rattle.desk_words.specs.declared.request.Request.TheVariants.{Write, Post, Unpost, Mark, Manual}
 use Rattle.desk_words.specs.declared.request.Request.TheVariants.{Activity, Close, Sweep, Balance}
-use Rattle.desk_words.specs.declared.request.Request.TheVariants.{Doc}
+use Rattle.desk_words.specs.declared.request.Request.TheVariants.{Doc, Turnovers, Both, Documents}
+use Rattle.desk_words.specs.declared.request.Request.TheVariants.{AccountBalance, AccountTurnovers}
+use Rattle.desk_words.specs.declared.request.Request.TheVariants.{AccountBoth, DrCr}
 use Rattle.desk_words.specs.declared.request.Post.TheVariants.{Content, Standing}
 use Rattle.desk_words.specs.declared.reply.Refusal.{Refusal}
 use Rattle.desk_model.specs.declared.plan.Plan.{Plan}
-use Rattle.desk_model.specs.Plans.{Sight, Deed, Meaning, changes, closes, asks_register}
-use Rattle.desk_model.specs.Plans.{asks_document}
+use Rattle.desk_model.specs.Plans.{Sight, Question, Meaning, changes, closes, asks}
 use Rattle.desk_model.specs.Writes.{plan_write}
 use Rattle.desk_model.specs.Posts.{plan_post, plan_standing, plan_unpost}
 use Rattle.desk_model.specs.Manuals.{plan_manual}
 use Rattle.desk_model.specs.States.{plan_mark, plan_activity, plan_sweep}
-use Rattle.desk_model.specs.Questions.{question_balance, question_doc}
+use Rattle.desk_model.specs.Questions.{question_doc, question_documents}
+use Rattle.desk_model.specs.RegisterQuestions.{question_balance, question_turnovers, question_both}
+use Rattle.desk_model.specs.LedgerQuestions.{question_account_balance, question_account_turnovers}
+use Rattle.desk_model.specs.LedgerQuestions.{question_account_both, question_pairs}
 
 -- a change that makes a document, or gives the one that it names new content
 abbrev pub making : List ℕ → Right → ℕ → Option ℕ → Option (List ℕ) →
@@ -49,13 +53,13 @@ changing clerk right number doc plan = record {
 }
 
 -- a question, which has no number
-abbrev pub asking : List ℕ → Deed → Meaning
-asking clerk deed = record {
+abbrev pub asking : List ℕ → Result Question Refusal → Meaning
+asking clerk question = record {
   clerk = clerk;
   right = Read;
   number = None;
   draws = false;
-  deed = deed;
+  deed = asks question;
 }
 
 -- what a request means
@@ -76,5 +80,12 @@ meaning_of config (Close c) = record {
   deed = closes c.date;
 }
 meaning_of config (Sweep s) = changing s.clerk Admin s.no s.doc plan_sweep
-meaning_of config (Balance b) = asking b.clerk (asks_register (question_balance config b))
-meaning_of config (Doc q) = asking q.clerk (asks_document (question_doc config q))
+meaning_of config (Balance b) = asking b.clerk (question_balance config b)
+meaning_of config (Turnovers t) = asking t.clerk (question_turnovers config t)
+meaning_of config (Both b) = asking b.turnovers.clerk (question_both config b)
+meaning_of config (AccountBalance b) = asking b.clerk (question_account_balance config b)
+meaning_of config (AccountTurnovers t) = asking t.clerk (question_account_turnovers config t)
+meaning_of config (AccountBoth t) = asking t.clerk (question_account_both config t)
+meaning_of config (DrCr q) = asking q.clerk (question_pairs config q)
+meaning_of config (Documents q) = asking q.clerk (question_documents config q)
+meaning_of config (Doc q) = asking q.clerk (question_doc config q)

@@ -4,6 +4,7 @@ use Rattle.std.specs.Prelude.{option_and_then, List, [], Result, Ok, Err}
 use Rattle.reg_base.specs.Results.{◌>>=◌, unless, some_or, none_or}
 use Rattle.reg_base.specs.declared.records.Document.{Document}
 use Rattle.reg_base.specs.Records.{records_of, chosen_records}
+use Rattle.reg_base.specs.BookedEntries.{entries_of}
 use Rattle.desk_words.specs.declared.request.Request.{Request}
 use Rattle.desk_words.specs.declared.reply.Answer.{Answer}
 use Rattle.desk_words.specs.declared.reply.Refusal.{Refusal}
@@ -15,8 +16,8 @@ use Rattle.desk_model.specs.Effects.{Effect, Tests, no_tests}
 use Rattle.desk_model.specs.Stops.{Stop, refuses, or_stop}
 use Rattle.desk_model.specs.Effects.{documents_with, effect_with, close_effect}
 use Rattle.desk_model.specs.declared.plan.Plan.{Plan}
-use Rattle.desk_model.specs.Plans.{Sight, Change, Question, DocumentQuestion, Deed, Meaning}
-use Rattle.desk_model.specs.Plans.{changes, closes, asks_register, asks_document}
+use Rattle.desk_model.specs.Plans.{Sight, Change, Question, Deed, Meaning, changes, closes, asks}
+use Rattle.desk_model.specs.Plans.{about_register, about_ledger, about_document, about_documents}
 use Rattle.desk_model.specs.Clerks.{is_clerk, is_allowed}
 use Rattle.desk_model.specs.LastRequests.{lasts_with}
 use Rattle.desk_model.specs.Controls.{control_fault}
@@ -73,28 +74,26 @@ answer_effect state answer = record {
   answer = answer;
 }
 
--- what a question is answered, from the records that it asks for
-unfoldable pub question_answer : State → Result Question Refusal → Result Answer Refusal
-question_answer state question = do
-  q ← question
-  Ok (q.answer (chosen_records q.asked (records_of q.register state.documents)))
+-- what a question is answered over documents: from their records, their entries or themselves
+unfoldable pub answer_to : List Document → Question → Result Answer Refusal
+answer_to documents (about_register q) =
+    q.answer (chosen_records q.asked (records_of q.register documents))
+answer_to documents (about_ledger q) = q.answer (entries_of q.ledger documents)
+answer_to documents (about_document q) = do
+  d ← some_or (document_at q.doc documents) UnknownDoc
+  Ok (q.answer d)
+answer_to documents (about_documents answer) = answer documents
 
--- the effect of a question about a register
+-- what is answered where a question can be asked
+unfoldable pub question_answer : List Document → Result Question Refusal → Result Answer Refusal
+question_answer documents question = do
+  q ← question
+  answer_to documents q
+
+-- the effect of a question
 unfoldable pub question_effect : State → Result Question Refusal → Result Effect Refusal
 question_effect state question = do
-  answer ← question_answer state question
-  Ok (answer_effect state answer)
-
--- what a question about a document is answered, where there is the document
-unfoldable pub document_answer : State → DocumentQuestion → Result Answer Refusal
-document_answer state q = do
-  d ← some_or (document_at q.doc state.documents) UnknownDoc
-  Ok (q.answer d)
-
--- the effect of a question about a document
-unfoldable pub document_effect : State → DocumentQuestion → Result Effect Refusal
-document_effect state q = do
-  answer ← document_answer state q
+  answer ← question_answer state.documents question
   Ok (answer_effect state answer)
 
 -- ---- commands
@@ -104,8 +103,7 @@ abbrev pub deed_effect : Tests → Setting → State → ℕ → Deed → Result
 deed_effect tests setting state number (changes change) =
     change_effect tests setting state number change
 deed_effect tests setting state number (closes date) = Ok (close_effect state date)
-deed_effect tests setting state number (asks_register question) = question_effect state question
-deed_effect tests setting state number (asks_document question) = document_effect state question
+deed_effect tests setting state number (asks question) = question_effect state question
 
 -- the effect of a command, or why it goes no further: there is such a clerk, who may do this, and
 -- his number is asked; and then its deed

@@ -16,7 +16,7 @@ use Rattle.desk_words.specs.declared.request.RecordText.TheVariants.{Register as
 use Rattle.desk_words.specs.declared.request.RecordText.TheVariants.{Ledger as InLedger}
 use Rattle.desk_words.specs.declared.reply.ShownDocument.{ShownDocument}
 use Rattle.desk_words.specs.ReplyWords.{value_text}
-use Rattle.desk_words.specs.ReplyTexts.{sum_texts}
+use Rattle.desk_words.specs.RowTexts.{sum_texts}
 use Rattle.desk_model.specs.Fields.{field_texts}
 
 -- ---- records

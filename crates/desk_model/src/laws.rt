@@ -5,13 +5,13 @@ ghost use Rattle.desk_words.specs.declared.request.Request.{Request};
 ghost use Rattle.desk_words.specs.ReplyTexts.{HasScales};
 ghost use Rattle.desk_model.specs.State.{Desk};
 ghost use Rattle.desk_model.specs.Desk.{step};
-ghost use Rattle.desk_model.specs.Laws.{BalancesHold, NumbersRise, RepeatsChangeNothing};
+ghost use Rattle.desk_model.specs.Laws.{TablesHold, NumbersRise, RepeatsChangeNothing};
 ghost use Rattle.desk_model.specs.Laws.{RepeatsAreAnswered, IsRefusal, RefusalKeeps, Replays};
 
-/// Every accepted balance is the sum over the records active at its point, whatever lines came
-/// before it.
-pub fn balances_are_sums()
-    ensures { (desk : Desk) (lines : List Line) → BalancesHold desk lines }
+/// Every accepted table is the one that was asked for, over the records, the entries or the
+/// documents at its place, whatever lines came before it.
+pub fn tables_are_sums()
+    ensures { (desk : Desk) (lines : List Line) → TablesHold desk lines }
 {}
 
 /// The numbers of each clerk rise over the lines that are answered; a request that is repeated

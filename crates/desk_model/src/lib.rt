@@ -19,7 +19,7 @@ mod plan;
 
 pub use last::Last;
 pub use laws::{
-    accepted_requests_replay, balances_are_sums, refusals_change_nothing, replies_have_scales,
-    requests_act_once,
+    accepted_requests_replay, refusals_change_nothing, replies_have_scales, requests_act_once,
+    tables_are_sums,
 };
 pub use plan::{Given, GivenEntry, GivenSet, Plan, Source, Space};

@@ -1,5 +1,6 @@
 pub mod BoundLemmas
 pub mod FieldLemmas
+pub mod ForAbove
 pub mod GivenLemmas
 pub mod PartLemmas
 pub mod ReadingLemmas

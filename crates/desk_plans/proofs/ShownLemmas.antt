@@ -10,7 +10,7 @@ use Rattle.cfg_model.specs.declared.register.Resource.{Resource}
 use Rattle.cfg_model.specs.declared.ledger.Chart.{Chart}
 use Rattle.desk_words.specs.declared.request.RecordText.{RecordText}
 use Rattle.desk_words.specs.declared.request.SetText.{SetText}
-use Rattle.desk_words.specs.ReplyTexts.{sum_texts}
+use Rattle.desk_words.specs.RowTexts.{sum_texts}
 use Rattle.desk_model.specs.Shown.{shown_record, shown_entry, shown_set}
 use Rattle.desk_model.specs.Shown.{shown_registers, shown_ledgers}
 use Rattle.desk_plans.specs.ShownSets.{shown_spaces}

@@ -1,6 +1,6 @@
 //! The parts of a record: each text is read for the dimension or resource of its place.
 ghost use Rattle.std.specs.Prelude.{◌≡◌, List, ℕ, Option, IfOk};
-ghost use Rattle.desk_model.specs.GivenRecords.{value_in, amount_in, values_for};
+ghost use Rattle.desk_model.specs.GivenRecords.{value_in as value_of, amount_in, values_for};
 ghost use Rattle.desk_model.specs.GivenRecords.{units_in as units_at};
 
 use cfg_model::{Dimension, Resource};
@@ -16,7 +16,7 @@ pub(crate) trait Part<X> {
 }
 
 impl Part<Value> for Dimension {
-    ghost reads = { value_in };
+    ghost reads = { value_of };
 
     fn read(&self, text: &str) -> Option<Value> {
         if self.lot {
@@ -34,6 +34,13 @@ impl Part<i64> for Resource {
     fn read(&self, text: &str) -> Option<i64> {
         units_in(self.scale, text)
     }
+}
+
+/// The value that a text spells in a dimension: a code, or in a lot dimension a point.
+pub fn value_in(dimension: &Dimension, text: &str) -> Option<Value>
+    ensures { result ≡ value_of dimension.now text.now }
+{
+    dimension.read(text)
 }
 
 // The number that a text spells at a scale, in units.

@@ -4,7 +4,7 @@ ghost use Rattle.std.specs.Option.{option_copied, option_map};
 ghost use Rattle.reg_base.specs.Numbers.{sum_text};
 ghost use Rattle.desk_words.specs.declared.request.RecordText.{RecordText};
 ghost use Rattle.desk_words.specs.ReplyWords.{value_text as value_text_of};
-ghost use Rattle.desk_words.specs.ReplyTexts.{sum_texts as sum_texts_of};
+ghost use Rattle.desk_words.specs.RowTexts.{sum_texts as sum_texts_of};
 ghost use Rattle.desk_model.specs.Fields.{field_texts as field_texts_of};
 ghost use Rattle.desk_model.specs.Shown.{shown_document as shown_document_of, kind_at};
 ghost use Rattle.desk_model.specs.Shown.{head_fields as head_fields_of};
@@ -48,6 +48,13 @@ pub fn shown_document(
         sets,
         state: doc.state,
     })
+}
+
+/// The name of a document's type, where it has one.
+pub fn document_kind(config: &Config, document: &Document) -> Option<Name>
+    ensures { result ≡ option_map (λ k. k.name) (kind_at config.now document.now.doc.kind) }
+{
+    kind_name(kind_of(config, &document.doc))
 }
 
 // The type of a document, where it has one.

@@ -20,13 +20,14 @@ use Rattle.desk_words.specs.declared.request.Write.{Write}
 use Rattle.desk_words.specs.declared.request.Manual.{Manual}
 use Rattle.desk_words.specs.Members.{operation_named}
 use Rattle.desk_words.specs.Shapes.{OrFault, value_at, json_number, json_code, json_comment}
+use Rattle.desk_words.specs.ReadRequests.{heading_of}
 use Rattle.desk_words.specs.ReadRequests.{key_beside, write_request, manual_request}
 use Rattle.desk_words.specs.Reading.{operation_of, check_present, check_known, members_of}
 use Rattle.desk_words.specs.JsonValues.{whole}
 use Rattle.desk_words.specs.RequestTexts.{write_frame, write_members, manual_frame, manual_members}
 use Rattle.desk_words.specs.RequestTexts.{request_data}
-use Rattle.desk_words.specs.WellFormed.{IsCode, IsNumber, IsComment, IsWriteRequest}
-use Rattle.desk_words.specs.WellFormed.{IsManualRequest}
+use Rattle.desk_words.specs.WellFormedParts.{IsCode, IsNumber, IsComment}
+use Rattle.desk_words.specs.WellFormed.{IsWriteRequest, IsManualRequest}
 use Rattle.desk_words.proofs.PlainLemmas.{IsPlain-sets_data, depth-sets_data, IsPlain-fields_data}
 use Rattle.desk_words.proofs.PlainLemmas.{depth-fields_data, IsPlain-lines_data, depth-lines_data}
 use Rattle.desk_words.proofs.ShapesBack.{json_name-back, json_code-back, json_number-back}
@@ -90,7 +91,7 @@ content-asks op w no_tx = (
 
 content-back : (op : List ℕ) (w : Write) → IsWriteRequest w
     → write_request (write_members op w) ≡ Ok w
-unfolding write_request key_beside value_at write_frame
+unfolding write_request heading_of key_beside value_at write_frame
 content-back op w h =
     rw (
       content_found op w (codes "clerk") refl,
@@ -224,7 +225,7 @@ manual-asks m no_tx = (
 
 manual-back : (m : Manual) → IsManualRequest m
     → members_of Manual_op (manual_members m) ≡ Ok (Manual_request m)
-unfolding members_of manual_request key_beside value_at manual_frame
+unfolding members_of manual_request heading_of key_beside value_at manual_frame
 manual-back m h =
     rw (
       manual_found m (codes "clerk") refl,

@@ -9,8 +9,8 @@ use Rattle.serde_json.specs.Data.{Data, string, Members, no_members, member, put
 use Rattle.serde_json.specs.View.{items_of}
 use Rattle.serde_json.specs.Written.{has_float, items_have_float, members_have_float}
 use Rattle.desk_words.specs.declared.request.FieldText.{FieldText}
-use Rattle.desk_words.specs.JsonValues.{texts_data}
-use Rattle.desk_words.specs.FieldTexts.{put_fields, fields_data, lines_data}
+use Rattle.desk_words.specs.JsonValues.{texts_data, put_named}
+use Rattle.desk_words.specs.FieldTexts.{fields_data, lines_data}
 
 -- texts are no floats
 items_have_float-texts : (texts : List (List ℕ))
@@ -49,16 +49,21 @@ members_have_float-put name value (member l e ms) v h =
     rw parts.0 (members_have_float-put name value ms v parts.1) in
     at_ordering (slice_cmp nat_cmp name l) _ _ _ all here later
 
-members_have_float-fields : (ms : Members) (fields : List FieldText)
-    → members_have_float ms ≡ false → members_have_float (put_fields ms fields) ≡ false
-members_have_float-fields ms [] h = h
-members_have_float-fields ms (field ∷ fields) h =
-    members_have_float-fields (put field.name (string field.text) ms) fields
-    (members_have_float-put field.name (string field.text) ms refl h)
+-- members with those of a list that have none have none
+pub members_have_float-named : {X : Type 0} (name_of : X → List ℕ) (data_of : X → Data)
+    → ((x : X) → has_float (data_of x) ≡ false) → (ms : Members) (xs : List X)
+    → members_have_float ms ≡ false
+    → members_have_float (put_named name_of data_of ms xs) ≡ false
+members_have_float-named name_of data_of none ms [] h = h
+members_have_float-named name_of data_of none ms (x ∷ xs) h =
+    members_have_float-named name_of data_of none (put (name_of x) (data_of x) ms) xs
+    (members_have_float-put (name_of x) (data_of x) ms (none x) h)
 
 -- the fields of a head or of a line have none
 pub has_float-fields_data : (fields : List FieldText) → has_float (fields_data fields) ≡ false
-has_float-fields_data fields = members_have_float-fields no_members fields refl
+has_float-fields_data fields =
+    members_have_float-named (λ (field : FieldText). field.name)
+    (λ (field : FieldText). string field.text) (λ field. refl) no_members fields refl
 
 -- the fields of all lines have none
 pub has_float-lines_data : (lines : List (List FieldText)) → has_float (lines_data lines) ≡ false

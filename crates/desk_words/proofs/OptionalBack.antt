@@ -21,13 +21,13 @@ use Rattle.desk_words.specs.Members.{first_unknown_member}
 use Rattle.desk_words.specs.Shapes.{OrFault, shape_if}
 use Rattle.desk_words.specs.JsonValues.{whole, put_if}
 use Rattle.desk_words.specs.RequestTexts.{put_optional}
-use Rattle.desk_words.specs.WellFormed.{IsCode, IsNumber, IsComment}
+use Rattle.desk_words.specs.WellFormedParts.{IsCode, IsNumber, IsComment}
 use Rattle.desk_words.proofs.PlainLemmas.{MembersArePlain-put_if, members_depth-put_if}
 use Rattle.desk_words.proofs.TextsBack.{IsPlain-whole, IsUtf8-comment}
 
 -- ---- one member
 
-apart : (q k : List ℕ) → bytes_eq q k ≡ false → q ≡ k → ⊥
+pub apart : (q k : List ℕ) → bytes_eq q k ≡ false → q ≡ k → ⊥
 apart q k other same = let equal = (bytes_eq-Decides q k).1 same in absurd cc
 
 -- another name is found as before
@@ -109,7 +109,7 @@ found_comment doc key comment tx frame absent =
 
 -- ---- none of them is unknown
 
-abbrev is_known : Operation → List ℕ → Bool
+abbrev pub is_known : Operation → List ℕ → Bool
 is_known op name = is_name_of (required_members op) name || is_name_of (other_members op) name
 
 known_first : (known : Bool) (o : Option (List ℕ)) (name : List ℕ)
@@ -117,7 +117,7 @@ known_first : (known : Bool) (o : Option (List ℕ)) (name : List ℕ)
 known_first true o name h = (refl, h)
 known_first false o name h = absurd cc
 
-known-put : (op : Operation) (k : List ℕ) (d : Data) (ms : Members) → is_known op k ≡ true
+pub known-put : (op : Operation) (k : List ℕ) (d : Data) (ms : Members) → is_known op k ≡ true
     → first_unknown_member op ms ≡ None → first_unknown_member op (put k d ms) ≡ None
 known-put op k d no_members is h = rw is
 known-put op k d (member l e ms) is h =

@@ -16,15 +16,18 @@ use Rattle.reg_base.specs.declared.records.Mark.TheVariants.{Receipt, Expense, T
 use Rattle.reg_base.specs.declared.records.Side.{Side}
 use Rattle.reg_base.proofs.ForAbove.{IsUtf8-tested, IsUtf8-code, IsUtf8-name}
 use Rattle.desk_words.specs.declared.request.FieldText.{FieldText}
+use Rattle.desk_words.specs.declared.request.FilterText.{FilterText}
 use Rattle.desk_words.specs.declared.request.SetText.{SetText}
 use Rattle.desk_words.specs.declared.request.RecordText.{RecordText}
 use Rattle.desk_words.specs.declared.request.RecordText.TheVariants.{Register, Ledger}
-use Rattle.desk_words.specs.FieldTexts.{put_fields, fields_data, lines_data}
-use Rattle.desk_words.specs.JsonValues.{texts_data, put_if}
+use Rattle.desk_words.specs.FieldTexts.{fields_data, lines_data}
+use Rattle.desk_words.specs.JsonValues.{texts_data, put_if, put_named}
+use Rattle.desk_words.specs.TableTexts.{filters_data}
+use Rattle.desk_words.specs.WellFormedTables.{IsFilterText, AreFilters}
 use Rattle.desk_words.specs.RequestTexts.{mark_name, side_data, register_data, ledger_data}
 use Rattle.desk_words.specs.RequestTexts.{record_data, set_data, sets_data}
-use Rattle.desk_words.specs.WellFormed.{IsCode, IsSide, IsRecordText, IsSetText, IsFieldText}
-use Rattle.desk_words.specs.WellFormed.{AreFields}
+use Rattle.desk_words.specs.WellFormedParts.{IsCode}
+use Rattle.desk_words.specs.WellFormed.{IsSide, IsRecordText, IsSetText, IsFieldText, AreFields}
 
 -- ---- members that are put in
 
@@ -67,7 +70,7 @@ stands_before-put l k d (member n e ms) p h =
     at ih Equal = h
     at ih Greater = both _ _ parts.0 ih
 
-MembersArePlain-put : (k : List ℕ) (d : Data) (ms : Members) → IsUtf8 k → IsPlain d
+pub MembersArePlain-put : (k : List ℕ) (d : Data) (ms : Members) → IsUtf8 k → IsPlain d
     → MembersArePlain ms → MembersArePlain (put k d ms)
 MembersArePlain-put k d no_members utf8 plain h = ((utf8, refl), plain, tt)
 MembersArePlain-put k d (member l e ms) utf8 plain h =
@@ -95,17 +98,25 @@ MembersArePlain-put_if name data_of P plain utf8 (Some x) is ms h =
 
 -- ---- plain values
 
-MembersArePlain-fields : (ms : Members) (fields : List FieldText) → MembersArePlain ms
-    → AllByRecursion IsFieldText fields → MembersArePlain (put_fields ms fields)
-MembersArePlain-fields ms [] h all = h
-MembersArePlain-fields ms (field ∷ fields) h all =
-    MembersArePlain-fields (put field.name (string field.text) ms) fields
-    (MembersArePlain-put field.name (string field.text) ms (IsUtf8-name field.name all.0.0)
-    all.0.1 h) all.1
+-- members with those of a list that are plain
+pub MembersArePlain-named : {X : Type 0} (name_of : X → List ℕ) (data_of : X → Data)
+    → (P : X → Type 0) → ((x : X) → P x → IsUtf8 (name_of x) × IsPlain (data_of x))
+    → (ms : Members) (xs : List X) → MembersArePlain ms → AllByRecursion P xs
+    → MembersArePlain (put_named name_of data_of ms xs)
+MembersArePlain-named name_of data_of P plain ms [] h all = h
+MembersArePlain-named name_of data_of P plain ms (x ∷ xs) h all =
+    MembersArePlain-named name_of data_of P plain (put (name_of x) (data_of x) ms) xs
+    (MembersArePlain-put (name_of x) (data_of x) ms (plain x all.0).0 (plain x all.0).1 h) all.1
+
+IsPlain-field : (field : FieldText) → IsFieldText field
+    → IsUtf8 field.name × IsPlain (string field.text)
+IsPlain-field field is = (IsUtf8-name field.name is.0, is.1)
 
 pub IsPlain-fields_data : (fields : List FieldText) → AreFields fields
     → IsPlain (fields_data fields)
-IsPlain-fields_data fields h = MembersArePlain-fields no_members fields tt h.0
+IsPlain-fields_data fields h =
+    MembersArePlain-named (λ (field : FieldText). field.name)
+    (λ (field : FieldText). string field.text) IsFieldText IsPlain-field no_members fields tt h.0
 
 ItemsArePlain-each : {X : Type 0} (data_of : X → Data) (P : X → Type 0)
     → ((x : X) → P x → IsPlain (data_of x)) → (xs : List X) → AllByRecursion P xs
@@ -114,13 +125,25 @@ ItemsArePlain-each data_of P plain [] h = tt
 ItemsArePlain-each data_of P plain (x ∷ xs) h =
     (plain x h.0, ItemsArePlain-each data_of P plain xs h.1)
 
-IsPlain-texts_data : (P : List ℕ → Type 0) → ((text : List ℕ) → P text → IsUtf8 text)
+pub IsPlain-texts_data : (P : List ℕ → Type 0) → ((text : List ℕ) → P text → IsUtf8 text)
     → (texts : List (List ℕ)) → AllByRecursion P texts → IsPlain (texts_data texts)
 unfolding texts_data
 IsPlain-texts_data P utf8 texts h = ItemsArePlain-each string P utf8 texts h
 
 same : (text : List ℕ) → IsUtf8 text → IsUtf8 text
 same text h = h
+
+IsPlain-filter : (filter : FilterText) → IsFilterText filter
+    → IsUtf8 filter.name × IsPlain (texts_data filter.values)
+IsPlain-filter filter is =
+    (IsUtf8-name filter.name is.0, IsPlain-texts_data IsUtf8 same filter.values is.1)
+
+pub IsPlain-filters_data : (filters : List FilterText) → AreFilters filters
+    → IsPlain (filters_data filters)
+IsPlain-filters_data filters h =
+    MembersArePlain-named (λ (filter : FilterText). filter.name)
+    (λ (filter : FilterText). texts_data filter.values) IsFilterText IsPlain-filter no_members
+    filters tt h.0
 
 IsUtf8-mark_name : (mark : Mark) → IsUtf8 (mark_name mark)
 IsUtf8-mark_name Receipt = IsUtf8-tested (codes "receipt") refl
@@ -177,7 +200,7 @@ IsPlain-lines_data lines h = ItemsArePlain-each fields_data AreFields IsPlain-fi
 
 -- ---- how deep they nest
 
-members_depth-put : (most : ℕ) (k : List ℕ) (d : Data) (ms : Members) → depth d ≤ most
+pub members_depth-put : (most : ℕ) (k : List ℕ) (d : Data) (ms : Members) → depth d ≤ most
     → members_depth ms ≤ most → members_depth (put k d ms) ≤ most
 members_depth-put most k d no_members p h = omega (arith, p)
 members_depth-put most k d (member l e ms) p h =
@@ -198,15 +221,21 @@ members_depth-put_if most name data_of shallow None ms h = h
 members_depth-put_if most name data_of shallow (Some x) ms h =
     members_depth-put most name (data_of x) ms (shallow x) h
 
-members_depth-fields : (ms : Members) (fields : List FieldText) → members_depth ms ≤ 0
-    → members_depth (put_fields ms fields) ≤ 0
-members_depth-fields ms [] h = h
-members_depth-fields ms (field ∷ fields) h =
-    members_depth-fields (put field.name (string field.text) ms) fields
-    (members_depth-put 0 field.name (string field.text) ms (omega arith) h)
+-- members with those of a list
+pub members_depth-named : {X : Type 0} (most : ℕ) (name_of : X → List ℕ) (data_of : X → Data)
+    → ((x : X) → depth (data_of x) ≤ most) → (ms : Members) (xs : List X)
+    → members_depth ms ≤ most → members_depth (put_named name_of data_of ms xs) ≤ most
+members_depth-named most name_of data_of shallow ms [] h = h
+members_depth-named most name_of data_of shallow ms (x ∷ xs) h =
+    members_depth-named most name_of data_of shallow (put (name_of x) (data_of x) ms) xs
+    (members_depth-put most (name_of x) (data_of x) ms (shallow x) h)
 
 pub depth-fields_data : (fields : List FieldText) → depth (fields_data fields) ≤ 1
-depth-fields_data fields = omega (arith, members_depth-fields no_members fields (omega arith))
+depth-fields_data fields =
+    let shallow = members_depth-named 0 (λ (field : FieldText). field.name)
+    (λ (field : FieldText). string field.text) (λ field. omega arith) no_members fields
+    (omega arith) in
+    omega (arith, shallow)
 
 items_depth-each : {X : Type 0} (data_of : X → Data) (most : ℕ)
     → ((x : X) → depth (data_of x) ≤ most) → (xs : List X)
@@ -214,9 +243,16 @@ items_depth-each : {X : Type 0} (data_of : X → Data) (most : ℕ)
 items_depth-each data_of most h [] = omega arith
 items_depth-each data_of most h (x ∷ xs) = omega (arith, h x, items_depth-each data_of most h xs)
 
-depth-texts_data : (texts : List (List ℕ)) → depth (texts_data texts) ≤ 1
+pub depth-texts_data : (texts : List (List ℕ)) → depth (texts_data texts) ≤ 1
 unfolding texts_data
 depth-texts_data texts = omega (arith, items_depth-each string 0 (λ text. omega arith) texts)
+
+pub depth-filters_data : (filters : List FilterText) → depth (filters_data filters) ≤ 2
+depth-filters_data filters =
+    let shallow = members_depth-named 1 (λ (filter : FilterText). filter.name)
+    (λ (filter : FilterText). texts_data filter.values) (λ filter. depth-texts_data filter.values)
+    no_members filters (omega arith) in
+    omega (arith, shallow)
 
 depth-side_data : (side : Option Side) → depth (side_data side) ≤ 1
 depth-side_data None = omega arith

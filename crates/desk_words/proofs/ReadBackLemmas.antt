@@ -1,20 +1,17 @@
 -- The canonical text of a request is read as that request.
-use Rattle.std.proofs.Common.{◌≡◌, ℕ, ◌≤◌, List, Option, Some, None, IfSome, Ok}
+use Rattle.std.proofs.Common.{◌≡◌, ℕ, ◌≤◌, List, None, Ok}
 use Rattle.std.proofs.Common.{codes, IsUtf8, refl, ap, sym, subst, arith}
 use Rattle.serde_json.specs.Data.{object, depth}
 use Rattle.serde_json.specs.Read.{max_depth}
 use Rattle.json_laws.specs.Plain.{IsPlain}
 use Rattle.reg_base.specs.Results.{◌>>=◌}
 use Rattle.reg_base.specs.declared.line.Line.TheVariants.{Text}
-use Rattle.reg_base.specs.Cuts.{IsCut}
-use Rattle.reg_base.specs.declared.cut.Cut.{Cut}
-use Rattle.reg_base.proofs.ForAbove.{IsUtf8-name, IsUtf8-date_text, IsUtf8-cut_text}
+use Rattle.reg_base.proofs.ForAbove.{IsUtf8-name, IsUtf8-date_text}
 use Rattle.reg_base.proofs.ForAbove.{IsUtf8-tested}
 use Rattle.desk_words.specs.declared.members.Operation.TheVariants.{Mark as Mark_op}
 use Rattle.desk_words.specs.declared.members.Operation.TheVariants.{Activity as Activity_op}
 use Rattle.desk_words.specs.declared.members.Operation.TheVariants.{Close as Close_op}
 use Rattle.desk_words.specs.declared.members.Operation.TheVariants.{Sweep as Sweep_op}
-use Rattle.desk_words.specs.declared.members.Operation.TheVariants.{Balance as Balance_op}
 use Rattle.desk_words.specs.declared.members.Operation.TheVariants.{Doc as Doc_op}
 use Rattle.desk_words.specs.declared.request.Request.{Request}
 use Rattle.desk_words.specs.declared.request.Request.TheVariants.{Write as Write_request}
@@ -27,6 +24,13 @@ use Rattle.desk_words.specs.declared.request.Request.TheVariants.{Balance as Bal
 use Rattle.desk_words.specs.declared.request.Request.TheVariants.{Doc as Doc_request}
 use Rattle.desk_words.specs.declared.request.Request.TheVariants.{Post as Post_request}
 use Rattle.desk_words.specs.declared.request.Request.TheVariants.{Unpost as Unpost_request}
+use Rattle.desk_words.specs.declared.request.Request.TheVariants.{Turnovers as Turnovers_request}
+use Rattle.desk_words.specs.declared.request.Request.TheVariants.{Both as Both_request}
+use Rattle.desk_words.specs.declared.request.Request.TheVariants.{AccountBalance as Held_request}
+use Rattle.desk_words.specs.declared.request.Request.TheVariants.{AccountTurnovers as Moved_request}
+use Rattle.desk_words.specs.declared.request.Request.TheVariants.{AccountBoth as Whole_request}
+use Rattle.desk_words.specs.declared.request.Request.TheVariants.{DrCr as DrCr_request}
+use Rattle.desk_words.specs.declared.request.Request.TheVariants.{Documents as Documents_request}
 use Rattle.desk_words.specs.declared.request.Post.TheVariants.{Content, Standing}
 use Rattle.desk_words.specs.declared.request.StandingDocument.{StandingDocument}
 use Rattle.desk_words.specs.declared.request.Switch.{Switch}
@@ -34,22 +38,31 @@ use Rattle.desk_words.specs.declared.request.Close.{Close}
 use Rattle.desk_words.specs.declared.request.Sweep.{Sweep}
 use Rattle.desk_words.specs.declared.request.Balance.{Balance}
 use Rattle.desk_words.specs.declared.request.DocQuestion.{DocQuestion}
+use Rattle.desk_words.specs.declared.tables.Turnovers.{Turnovers}
+use Rattle.desk_words.specs.declared.tables.Both.{Both}
+use Rattle.desk_words.specs.declared.tables.AccountBalance.{AccountBalance}
+use Rattle.desk_words.specs.declared.tables.AccountTurnovers.{AccountTurnovers}
+use Rattle.desk_words.specs.declared.tables.DrCr.{DrCr}
+use Rattle.desk_words.specs.declared.tables.DocumentsQuestion.{DocumentsQuestion}
 use Rattle.desk_words.specs.Shapes.{OrFault, value_at, json_boolean}
+use Rattle.desk_words.specs.ReadRequests.{standing_document}
 use Rattle.desk_words.specs.ReadRequests.{switch_request, close_request, sweep_request}
-use Rattle.desk_words.specs.ReadRequests.{balance_request, doc_question}
+use Rattle.desk_words.specs.ReadRequests.{doc_question}
 use Rattle.desk_words.specs.Reading.{operation_of, check_present, check_known, members_of}
 use Rattle.desk_words.specs.Reading.{request}
 use Rattle.desk_words.specs.RequestTexts.{switch_members, close_members, sweep_members}
-use Rattle.desk_words.specs.RequestTexts.{balance_frame, balance_members, doc_members}
+use Rattle.desk_words.specs.RequestTexts.{doc_members}
 use Rattle.desk_words.specs.RequestTexts.{request_data, request_text}
-use Rattle.desk_words.specs.WellFormed.{IsSwitch}
-use Rattle.desk_words.specs.WellFormed.{IsCloseRequest, IsSweepRequest}
-use Rattle.desk_words.specs.WellFormed.{IsBalanceRequest, IsDocQuestion, IsRequest}
+use Rattle.desk_words.specs.WellFormed.{IsSwitch, IsCloseRequest, IsSweepRequest, IsDocQuestion}
+use Rattle.desk_words.specs.WellFormed.{IsRequest}
 use Rattle.desk_words.proofs.ShapesBack.{json_name-back, json_number-back}
-use Rattle.desk_words.proofs.ShapesBack.{json_date-back, json_cut-back}
-use Rattle.desk_words.proofs.TextsBack.{AsksFor, ReadsBack, ReadsBack-members, IsPlain-whole}
+use Rattle.desk_words.proofs.ShapesBack.{json_date-back}
+use Rattle.desk_words.proofs.TextsBack.{ReadsBack, ReadsBack-members, IsPlain-whole}
 use Rattle.desk_words.proofs.DocumentsBack.{write_text-back, post_text-back, manual_text-back}
 use Rattle.desk_words.proofs.StandingBack.{standing-same, post_standing-back, unpost_text-back}
+use Rattle.desk_words.proofs.TablesBack.{balance_text-back, turnovers_text-back, both_text-back}
+use Rattle.desk_words.proofs.TablesBack.{held_text-back, moved_text-back, whole_text-back}
+use Rattle.desk_words.proofs.TablesBack.{dr_cr_text-back, documents_text-back}
 
 -- ---- `mark` and `activity`
 
@@ -62,7 +75,7 @@ switched-same s h = λ i. record s { tx = h.no_tx i }
 
 switch-back : (op : List ℕ) (s : Switch) → IsSwitch s
     → switch_request (switch_members op (switched s)) ≡ Ok (switched s)
-unfolding switch_request value_at switch_members json_boolean
+unfolding switch_request standing_document value_at switch_members json_boolean
 switch-back op s h =
     rw (
       json_name-back _ s.clerk h.clerk,
@@ -155,7 +168,7 @@ close_text-back c h =
 
 sweep-back : (s : Sweep) → IsSweepRequest s
     → members_of Sweep_op (sweep_members s) ≡ Ok (Sweep_request s)
-unfolding members_of sweep_request value_at sweep_members
+unfolding members_of sweep_request standing_document value_at sweep_members
 sweep-back s h =
     rw (
       json_name-back _ s.clerk h.clerk,
@@ -227,79 +240,6 @@ doc_text-back d h =
     ReadsBack-members (Doc_request (question d)) Doc_op (doc_members (question d)) refl
     (IsPlain-doc d h) (depth-doc d) (refl, refl, refl) (doc-back d h)
 
--- ---- `balance`
-
--- a balance without the members that are not built
-abbrev asked : Balance → Option Cut → Balance
-asked b cut = record b { filter = None; group = None; cut = cut; tx = None }
-
-asked-same : (b : Balance) → IsBalanceRequest b → (cut : Option Cut) → b.cut ≡ cut → b ≡ asked b cut
-asked-same b h cut is = λ i. record b {
-  filter = h.no_filter i;
-  group = h.no_group i;
-  cut = is i;
-  tx = h.no_tx i;
-}
-
-balance-back : (b : Balance) → IsBalanceRequest b → (cut : Option Cut) → IfSome cut IsCut
-    → members_of Balance_op (balance_members (asked b cut)) ≡ Ok (Balance_request (asked b cut))
-unfolding members_of balance_request value_at balance_members balance_frame
-balance-back b h None is =
-    rw (json_name-back _ b.clerk h.clerk, json_name-back _ b.register h.register)
-balance-back b h (Some cut) is =
-    rw (
-      json_name-back _ b.clerk h.clerk,
-      json_name-back _ b.register h.register,
-      json_cut-back _
-          cut is,
-    )
-
-IsPlain-balance : (b : Balance) → IsBalanceRequest b → (cut : Option Cut) → IfSome cut IsCut
-    → IsPlain (object (balance_members (asked b cut)))
-unfolding balance_members balance_frame
-IsPlain-balance b h None is = (
-  (IsUtf8-tested (codes "clerk") refl, refl),
-  IsUtf8-name b.clerk h.clerk,
-  (
-    (IsUtf8-tested (codes "op") refl, refl),
-    IsUtf8-tested (codes "balance") refl,
-    ((IsUtf8-tested (codes "register") refl, refl), IsUtf8-name b.register h.register, tt),
-  ),
-)
-IsPlain-balance b h (Some cut) is = (
-  (IsUtf8-tested (codes "clerk") refl, refl),
-  IsUtf8-name b.clerk h.clerk,
-  (
-    (IsUtf8-tested (codes "cut") refl, refl),
-    IsUtf8-cut_text cut is,
-    (
-      (IsUtf8-tested (codes "op") refl, refl),
-      IsUtf8-tested (codes "balance") refl,
-      ((IsUtf8-tested (codes "register") refl, refl), IsUtf8-name b.register h.register, tt),
-    ),
-  ),
-)
-
-depth-balance : (b : Balance) (cut : Option Cut)
-    → depth (object (balance_members (asked b cut))) ≤ max_depth
-unfolding balance_members balance_frame
-depth-balance b None = omega arith
-depth-balance b (Some cut) = omega arith
-
-balance-asks : (b : Balance) (cut : Option Cut)
-    → AsksFor Balance_op (balance_members (asked b cut))
-unfolding operation_of check_present check_known balance_members balance_frame
-balance-asks b None = (refl, refl, refl)
-balance-asks b (Some cut) = (refl, refl, refl)
-
-balance_text-back : (b : Balance) → IsBalanceRequest b → (cut : Option Cut) → IfSome cut IsCut
-    → ReadsBack (Balance_request (asked b cut))
-unfolding request_data
-balance_text-back b h cut is =
-    ReadsBack-members (Balance_request (asked b cut)) Balance_op (balance_members (asked b cut))
-    refl (IsPlain-balance b h cut is) (depth-balance b cut) (balance-asks b cut)
-    (balance-back b h cut is)
-
 -- the canonical text of a request is read as the request
 pub request-back : (r : Request) → IsRequest r → request (Text (request_text r)) ≡ Ok r
 request-back (Write_request w) h = write_text-back w h
@@ -313,8 +253,8 @@ request-back (Activity_request s) h =
 request-back (Close_request c) h = close_text-back c h
 request-back (Sweep_request s) h = sweep_text-back s h
 request-back (Balance_request b) h =
-    subst (λ (x : Balance). ReadsBack (Balance_request x)) (sym (asked-same b h b.cut refl))
-    (balance_text-back b h b.cut h.cut)
+    subst (λ (x : Balance). ReadsBack (Balance_request x))
+    (λ i. record b { tx = sym h.no_tx i }) (balance_text-back b h)
 request-back (Doc_request d) h =
     subst (λ (x : DocQuestion). ReadsBack (Doc_request x)) (sym (question-same d h))
     (doc_text-back d h)
@@ -325,3 +265,25 @@ request-back (Post_request (Standing s)) h =
 request-back (Unpost_request s) h =
     subst (λ (x : StandingDocument). ReadsBack (Unpost_request x)) (sym (standing-same s h))
     (unpost_text-back s h)
+request-back (Turnovers_request t) h =
+    subst (λ (x : Turnovers). ReadsBack (Turnovers_request x))
+    (λ i. record t { tx = sym h.no_tx i }) (turnovers_text-back t h)
+request-back (Both_request b) h =
+    subst (λ (x : Both). ReadsBack (Both_request x))
+    (λ i. record b { turnovers = record b.turnovers { tx = sym h.no_tx i } })
+    (both_text-back b h)
+request-back (Held_request a) h =
+    subst (λ (x : AccountBalance). ReadsBack (Held_request x))
+    (λ i. record a { tx = sym h.no_tx i }) (held_text-back a h)
+request-back (Moved_request a) h =
+    subst (λ (x : AccountTurnovers). ReadsBack (Moved_request x))
+    (λ i. record a { tx = sym h.no_tx i }) (moved_text-back a h)
+request-back (Whole_request a) h =
+    subst (λ (x : AccountTurnovers). ReadsBack (Whole_request x))
+    (λ i. record a { tx = sym h.no_tx i }) (whole_text-back a h)
+request-back (DrCr_request d) h =
+    subst (λ (x : DrCr). ReadsBack (DrCr_request x))
+    (λ i. record d { tx = sym h.no_tx i }) (dr_cr_text-back d h)
+request-back (Documents_request d) h =
+    subst (λ (x : DocumentsQuestion). ReadsBack (Documents_request x))
+    (λ i. record d { tx = sym h.no_tx i }) (documents_text-back d h)

@@ -1,11 +1,11 @@
 -- A request has no float, so that its text is known.
-use Rattle.std.proofs.Common.{◌≡◌, ℕ, false, Option, Some, None, option_map, List, [], ◌∷◌}
+use Rattle.std.proofs.Common.{◌≡◌, ℕ, false, Option, Some, None, option_map, List, ◌∷◌}
 use Rattle.std.proofs.Common.{codes, refl}
-use Rattle.serde_json.specs.Data.{Data, string, Members, no_members, put}
+use Rattle.serde_json.specs.Data.{Data, boolean, string, Members, no_members}
 use Rattle.serde_json.specs.Written.{has_float, members_have_float}
 use Rattle.reg_base.specs.declared.cut.Cut.{Cut}
 use Rattle.reg_base.specs.declared.records.Side.{Side}
-use Rattle.reg_base.specs.Cuts.{cut_text}
+use Rattle.reg_base.specs.declared.tables.Periodicity.{Periodicity}
 use Rattle.desk_words.specs.declared.request.Request.{Request}
 use Rattle.desk_words.specs.declared.request.Request.TheVariants.{Write as Write_request}
 use Rattle.desk_words.specs.declared.request.Request.TheVariants.{Mark as Mark_request}
@@ -17,6 +17,13 @@ use Rattle.desk_words.specs.declared.request.Request.TheVariants.{Balance as Bal
 use Rattle.desk_words.specs.declared.request.Request.TheVariants.{Doc as Doc_request}
 use Rattle.desk_words.specs.declared.request.Request.TheVariants.{Post as Post_request}
 use Rattle.desk_words.specs.declared.request.Request.TheVariants.{Unpost as Unpost_request}
+use Rattle.desk_words.specs.declared.request.Request.TheVariants.{Turnovers as Turnovers_request}
+use Rattle.desk_words.specs.declared.request.Request.TheVariants.{Both as Both_request}
+use Rattle.desk_words.specs.declared.request.Request.TheVariants.{AccountBalance as Held_request}
+use Rattle.desk_words.specs.declared.request.Request.TheVariants.{AccountTurnovers as Moved_request}
+use Rattle.desk_words.specs.declared.request.Request.TheVariants.{AccountBoth as Whole_request}
+use Rattle.desk_words.specs.declared.request.Request.TheVariants.{DrCr as DrCr_request}
+use Rattle.desk_words.specs.declared.request.Request.TheVariants.{Documents as Documents_request}
 use Rattle.desk_words.specs.declared.request.Post.TheVariants.{Content, Standing}
 use Rattle.desk_words.specs.declared.request.StandingDocument.{StandingDocument}
 use Rattle.desk_words.specs.declared.request.Write.{Write}
@@ -28,15 +35,29 @@ use Rattle.desk_words.specs.declared.request.SetText.{SetText}
 use Rattle.desk_words.specs.declared.request.FilterText.{FilterText}
 use Rattle.desk_words.specs.declared.request.RecordText.{RecordText}
 use Rattle.desk_words.specs.declared.request.RecordText.TheVariants.{Register, Ledger}
+use Rattle.desk_words.specs.declared.tables.AskedRegister.{AskedRegister}
+use Rattle.desk_words.specs.declared.tables.AskedAccounts.{AskedAccounts}
+use Rattle.desk_words.specs.declared.tables.AskedDates.{AskedDates}
+use Rattle.desk_words.specs.declared.tables.Turnovers.{Turnovers}
+use Rattle.desk_words.specs.declared.tables.Both.{Both}
+use Rattle.desk_words.specs.declared.tables.AccountBalance.{AccountBalance}
+use Rattle.desk_words.specs.declared.tables.AccountTurnovers.{AccountTurnovers}
+use Rattle.desk_words.specs.declared.tables.DrCr.{DrCr}
+use Rattle.desk_words.specs.declared.tables.DocumentsQuestion.{DocumentsQuestion}
 use Rattle.desk_words.specs.JsonValues.{whole, texts_data, put_if}
 use Rattle.desk_words.specs.RequestTexts.{side_data, register_data, ledger_data, record_data}
-use Rattle.desk_words.specs.RequestTexts.{set_data, sets_data, put_filters, filters_data}
+use Rattle.desk_words.specs.RequestTexts.{set_data, sets_data}
 use Rattle.desk_words.specs.RequestTexts.{put_optional, write_frame, write_members}
 use Rattle.desk_words.specs.RequestTexts.{standing_members, switch_members, manual_frame}
 use Rattle.desk_words.specs.RequestTexts.{manual_members, close_members, sweep_members}
-use Rattle.desk_words.specs.RequestTexts.{balance_frame, balance_members, doc_members, request_data}
+use Rattle.desk_words.specs.RequestTexts.{doc_members, request_data}
+use Rattle.desk_words.specs.TableTexts.{by_data, method_data, date_data, cut_data, filters_data}
+use Rattle.desk_words.specs.TableTexts.{put_register, put_accounts, put_dates, balance_members}
+use Rattle.desk_words.specs.TableTexts.{turnovers_members, both_members, account_balance_members}
+use Rattle.desk_words.specs.TableTexts.{account_turnovers_members, dr_cr_members, documents_members}
 use Rattle.desk_words.proofs.JsonLemmas.{items_have_float-each, has_float-texts_data}
-use Rattle.desk_words.proofs.JsonLemmas.{members_have_float-put, has_float-fields_data}
+use Rattle.desk_words.proofs.JsonLemmas.{members_have_float-put, members_have_float-named}
+use Rattle.desk_words.proofs.JsonLemmas.{has_float-fields_data}
 use Rattle.desk_words.proofs.JsonLemmas.{has_float-lines_data}
 
 -- members with one more, where it is there, have none
@@ -65,14 +86,6 @@ has_float-set_data set = rw (items_have_float-each record_data has_float-record_
 pub has_float-sets_data : (sets : List SetText) → has_float (sets_data sets) ≡ false
 unfolding sets_data
 has_float-sets_data sets = items_have_float-each set_data has_float-set_data sets
-
-members_have_float-filters : (ms : Members) (filters : List FilterText)
-    → members_have_float ms ≡ false → members_have_float (put_filters ms filters) ≡ false
-members_have_float-filters ms [] h = h
-members_have_float-filters ms (filter ∷ filters) h =
-    members_have_float-filters (put filter.name (texts_data filter.values) ms) filters
-    (members_have_float-put filter.name (texts_data filter.values) ms
-    (has_float-texts_data filter.values) h)
 
 members_have_float-optional : (doc : Option ℕ) (key comment : Option (List ℕ)) (tx : Option ℕ)
     → (frame : Members) → members_have_float frame ≡ false
@@ -112,15 +125,99 @@ members_have_float-manual m =
     members_have_float-optional m.doc m.key m.comment m.tx (manual_frame m)
     (rw (has_float-sets_data m.sets))
 
+-- ---- tables
+
+has_float-filters_data : (filters : List FilterText) → has_float (filters_data filters) ≡ false
+has_float-filters_data filters =
+    members_have_float-named (λ (filter : FilterText). filter.name)
+    (λ (filter : FilterText). texts_data filter.values)
+    (λ filter. has_float-texts_data filter.values) no_members filters refl
+
+members_have_float-register : (r : AskedRegister) (ms : Members) → members_have_float ms ≡ false
+    → members_have_float (put_register r ms) ≡ false
+unfolding put_register
+members_have_float-register r ms h =
+    members_have_float-put_if (codes "group") texts_data r.group _ has_float-texts_data
+    (members_have_float-put_if (codes "filter") filters_data r.filter _ has_float-filters_data
+    (members_have_float-put (codes "register") (string r.name) ms refl h))
+
+members_have_float-accounts : (a : AskedAccounts) (ms : Members) → members_have_float ms ≡ false
+    → members_have_float (put_accounts a ms) ≡ false
+unfolding put_accounts
+members_have_float-accounts a ms h =
+    members_have_float-put_if (codes "extras") boolean a.extras _ (λ b. refl)
+    (members_have_float-put_if (codes "account") string a.account _ (λ s. refl)
+    (members_have_float-put (codes "ledger") (string a.ledger) ms refl h))
+
+members_have_float-dates : (d : AskedDates) (ms : Members) → members_have_float ms ≡ false
+    → members_have_float (put_dates d ms) ≡ false
+unfolding put_dates
+members_have_float-dates d ms h =
+    members_have_float-put_if (codes "to") date_data d.to _ (λ date. refl)
+    (members_have_float-put_if (codes "from") date_data d.from ms (λ date. refl) h)
+
+-- a cut and a transaction
+members_have_float-cut : (cut : Option Cut) (tx : Option ℕ) (ms : Members)
+    → members_have_float ms ≡ false
+    → members_have_float (put_if (codes "tx") (option_map whole tx)
+    (put_if (codes "cut") (option_map cut_data cut) ms)) ≡ false
+members_have_float-cut cut tx ms h =
+    members_have_float-put_if (codes "tx") whole tx _ (λ n. refl)
+    (members_have_float-put_if (codes "cut") cut_data cut ms (λ cut. refl) h)
+
+-- a periodicity and a transaction
+members_have_float-by : (by : Option Periodicity) (tx : Option ℕ) (ms : Members)
+    → members_have_float ms ≡ false
+    → members_have_float (put_if (codes "tx") (option_map whole tx)
+    (put_if (codes "by") (option_map by_data by) ms)) ≡ false
+members_have_float-by by tx ms h =
+    members_have_float-put_if (codes "tx") whole tx _ (λ n. refl)
+    (members_have_float-put_if (codes "by") by_data by ms (λ by. refl) h)
+
 members_have_float-balance : (b : Balance) → members_have_float (balance_members b) ≡ false
-unfolding balance_members balance_frame
+unfolding balance_members
 members_have_float-balance b =
-    members_have_float-put_if (codes "tx") whole b.tx _ (λ n. refl)
-    (members_have_float-put_if (codes "cut") (λ (cut : Cut). string (cut_text cut)) b.cut _
-    (λ cut. refl)
-    (members_have_float-put_if (codes "group") texts_data b.group _ has_float-texts_data
-    (members_have_float-put_if (codes "filter") filters_data b.filter _
-    (λ filters. members_have_float-filters no_members filters refl) refl)))
+    members_have_float-cut b.cut b.tx _ (members_have_float-register b.register _ refl)
+
+members_have_float-turnovers : (op : List ℕ) (t : Turnovers)
+    → members_have_float (turnovers_members op t) ≡ false
+unfolding turnovers_members
+members_have_float-turnovers op t =
+    members_have_float-by t.by t.tx _
+    (members_have_float-dates t.dates _ (members_have_float-register t.register _ refl))
+
+members_have_float-both : (b : Both) → members_have_float (both_members b) ≡ false
+unfolding both_members
+members_have_float-both b =
+    members_have_float-put_if (codes "method") method_data b.method _ (λ method. refl)
+    (members_have_float-turnovers (codes "both") b.turnovers)
+
+members_have_float-held : (a : AccountBalance)
+    → members_have_float (account_balance_members a) ≡ false
+unfolding account_balance_members
+members_have_float-held a =
+    members_have_float-cut a.cut a.tx _ (members_have_float-accounts a.accounts _ refl)
+
+members_have_float-moved : (op : List ℕ) (a : AccountTurnovers)
+    → members_have_float (account_turnovers_members op a) ≡ false
+unfolding account_turnovers_members
+members_have_float-moved op a =
+    members_have_float-by a.by a.tx _
+    (members_have_float-dates a.dates _ (members_have_float-accounts a.accounts _ refl))
+
+members_have_float-dr_cr : (d : DrCr) → members_have_float (dr_cr_members d) ≡ false
+unfolding dr_cr_members
+members_have_float-dr_cr d =
+    members_have_float-put_if (codes "tx") whole d.tx _ (λ n. refl)
+    (members_have_float-dates d.dates _
+    (members_have_float-put_if (codes "account") string d.account _ (λ s. refl) refl))
+
+members_have_float-documents : (d : DocumentsQuestion)
+    → members_have_float (documents_members d) ≡ false
+unfolding documents_members
+members_have_float-documents d =
+    members_have_float-put_if (codes "tx") whole d.tx _ (λ n. refl)
+    (members_have_float-dates d.dates _ refl)
 
 -- a request has none
 pub has_float-request_data : (request : Request) → has_float (request_data request) ≡ false
@@ -136,3 +233,10 @@ has_float-request_data (Doc_request d) = members_have_float-doc d
 has_float-request_data (Post_request (Content w)) = members_have_float-write (codes "post") w
 has_float-request_data (Post_request (Standing s)) = members_have_float-standing (codes "post") s
 has_float-request_data (Unpost_request s) = members_have_float-standing (codes "unpost") s
+has_float-request_data (Turnovers_request t) = members_have_float-turnovers (codes "turnovers") t
+has_float-request_data (Both_request b) = members_have_float-both b
+has_float-request_data (Held_request a) = members_have_float-held a
+has_float-request_data (Moved_request a) = members_have_float-moved (codes "account_turnovers") a
+has_float-request_data (Whole_request a) = members_have_float-moved (codes "account_both") a
+has_float-request_data (DrCr_request d) = members_have_float-dr_cr d
+has_float-request_data (Documents_request d) = members_have_float-documents d

@@ -1,6 +1,7 @@
 -- What has a shape is well formed.
-use Rattle.std.proofs.Common.{◌≡◌, ℕ, ◌&&◌, ◌==◌, nat_le, Option, Some, None}
-use Rattle.std.proofs.Common.{IfSome, List, [], ◌∷◌, Result, Ok, Err, IfOk, IsUtf8, codes}
+use Rattle.std.proofs.Common.{◌≡◌, ℕ, Bool, true, false, if◌then◌else◌, ◌&&◌, ◌==◌, nat_le, Option}
+use Rattle.std.proofs.Common.{Some, None, IfSome, List, [], ◌∷◌, map, Result, Ok, Err, IfOk, IsUtf8}
+use Rattle.std.proofs.Common.{codes}
 use Rattle.std.proofs.Common.{refl, sym, subst, arith}
 use Rattle.std.proofs.lemmas.Bool.Decides.{nat_tests}
 use Rattle.std.specs.List.{AllByRecursion}
@@ -16,14 +17,16 @@ use Rattle.json_laws.specs.Plain.{MembersHaveUtf8}
 use Rattle.reg_base.specs.Codes.{is_code, is_name}
 use Rattle.reg_base.specs.Comments.{is_comment}
 use Rattle.reg_base.specs.Cuts.{IsCut, parse_cut}
-use Rattle.reg_base.specs.Dates.{parse_date}
+use Rattle.reg_base.specs.Dates.{parse_date, parse_date_end}
 use Rattle.reg_base.specs.Results.{◌>>=◌, unless, some_or}
 use Rattle.reg_base.specs.declared.records.Side.{Side}
-use Rattle.reg_base.proofs.ForAbove.{parse_date-within, parse_cut-IsCut}
+use Rattle.reg_base.specs.declared.tables.Periodicity.{Periodicity}
+use Rattle.reg_base.specs.declared.tables.Periodicity.TheVariants.{Period, Day, Week, TenDays}
+use Rattle.reg_base.specs.declared.tables.Periodicity.TheVariants.{Month, Quarter, HalfYear, Year}
+use Rattle.reg_base.proofs.ForAbove.{parse_date-within, parse_date_end-within, parse_cut-IsCut}
 use Rattle.reg_base.proofs.ForAbove.{IfOk-then, IfOk-next, IfOk-unless, IfOk-some_or}
 use Rattle.desk_words.specs.declared.fault.Member.{Member}
 use Rattle.desk_words.specs.declared.fault.WordFault.TheVariants.{BadMember}
-use Rattle.desk_words.specs.declared.request.FieldText.{FieldText}
 use Rattle.desk_words.specs.declared.request.RecordText.TheVariants.{Register, Ledger}
 use Rattle.desk_words.specs.Members.{member_names}
 use Rattle.desk_words.specs.Shapes.{value_at, json_object, json_text, json_name, json_code}
@@ -32,9 +35,13 @@ use Rattle.desk_words.specs.Shapes.{json_texts, json_codes}
 use Rattle.desk_words.specs.Sets.{json_mark, side_from, side_if, json_side, register_record}
 use Rattle.desk_words.specs.Sets.{ledger_record, record_if, json_record, json_records, json_set}
 use Rattle.desk_words.specs.Sets.{json_sets}
-use Rattle.desk_words.specs.Fields.{json_field, fields_each, json_fields, json_lines}
-use Rattle.desk_words.specs.WellFormed.{IsName, IsCode, IsNumber, IsDate, IsComment, IsFieldText}
-use Rattle.desk_words.specs.WellFormed.{field_names, AreFields, IsSide, IsRegisterText}
+use Rattle.desk_words.specs.Shapes.{OrFault, json_names, json_date_end, each_named}
+use Rattle.desk_words.specs.Fields.{json_field, json_fields, json_lines}
+use Rattle.desk_words.specs.TableShapes.{json_filter, json_filters, account_by_named}
+use Rattle.desk_words.specs.TableShapes.{json_account_by}
+use Rattle.desk_words.specs.WellFormedTables.{IsFilterText, AreFilters, AreNames, IsAccountBy}
+use Rattle.desk_words.specs.WellFormedParts.{IsName, IsCode, IsNumber, IsDate, IsComment}
+use Rattle.desk_words.specs.WellFormed.{IsFieldText, AreFields, IsSide, IsRegisterText}
 use Rattle.desk_words.specs.WellFormed.{IsLedgerText, IsRecordText, IsSetText}
 use Rattle.desk_words.proofs.OrderLemmas.{MembersAscend}
 use Rattle.desk_words.proofs.ReadValues.{IsRead, AreRead, json_object-AreRead, json_text-IsUtf8}
@@ -187,33 +194,7 @@ pub json_sets-Is : (m : Member) (d : Data) → IsRead d
 unfolding json_sets
 json_sets-Is m d h = json_list-All (json_set m) IsSetText (json_set-Is m) m d h
 
--- ---- fields
-
--- a field of this name
-abbrev IsFieldOf : List ℕ → FieldText → Type 0
-IsFieldOf name field = IsFieldText field × (field.name ≡ name)
-
-json_field-Is : (m : Member) (name : List ℕ) (d : Data) → IsRead d
-    → IfOk (json_field m name d) (IsFieldOf name)
-unfolding json_field
-json_field-Is m name d h =
-    IfOk-unless (IsFieldOf name) (is_name name) (BadMember m) _ (λ is.
-    IfOk-then IsUtf8 (IsFieldOf name) (json_text m d) _ (json_text-IsUtf8 m d h)
-    (λ text u. ((is, u), refl)))
-
--- fields of these names
-abbrev AreFieldsOf : Members → List FieldText → Type 0
-AreFieldsOf ms fields =
-    AllByRecursion IsFieldText fields × (field_names fields ≡ member_names ms)
-
-fields_each-Are : (m : Member) (ms : Members) → MembersHaveUtf8 ms → MembersAscend ms
-    → IfOk (fields_each m ms) (AreFieldsOf ms)
-fields_each-Are m no_members u a = (tt, refl)
-fields_each-Are m (member l e ms) u a =
-    IfOk-then (IsFieldOf l) (AreFieldsOf (member l e ms)) (json_field m l e) _
-    (json_field-Is m l e (u.1, a.0)) (λ field p.
-    IfOk-then (AreFieldsOf ms) (AreFieldsOf (member l e ms)) (fields_each m ms) _
-    (fields_each-Are m ms u.2 a.1) (λ fields q. ((p.0, q.0), λ i. p.1 i ∷ q.1 i)))
+-- ---- members under their names
 
 -- what has P has Q
 IfOk-weaker : {X F : Type 0} (P Q : X → Type 0) (r : Result X F) → IfOk r P
@@ -221,22 +202,116 @@ IfOk-weaker : {X F : Type 0} (P Q : X → Type 0) (r : Result X F) → IfOk r P
 IfOk-weaker P Q (Ok x) h more = more x h
 IfOk-weaker P Q (Err fault) h more = tt
 
-members-AreFields : (m : Member) (ms : Members) → AreRead ms → IfOk (fields_each m ms) AreFields
-members-AreFields m ms h =
-    IfOk-weaker (AreFieldsOf ms) AreFields (fields_each m ms) (fields_each-Are m ms h.0 h.1.1)
-    (λ fields are. (
+-- it has P and this name
+abbrev IsNamed : {X : Type 0} → (X → Type 0) → (X → List ℕ) → List ℕ → X → Type 0
+IsNamed P name_of name x = P x × (name_of x ≡ name)
+
+-- all have P, and their names are those of the members
+abbrev AreNamed : {X : Type 0} → (X → Type 0) → (X → List ℕ) → Members → List X → Type 0
+AreNamed P name_of ms xs = AllByRecursion P xs × (map name_of xs ≡ member_names ms)
+
+-- all have P, and their names ascend
+abbrev pub AreInOrder : {X : Type 0} → (X → Type 0) → (X → List ℕ) → List X → Type 0
+AreInOrder P name_of xs =
+    AllByRecursion P xs × IsStrictlySortedBy (slice_cmp nat_cmp) (map name_of xs)
+
+each_named-Are : {X : Type 0} (P : X → Type 0) (name_of : X → List ℕ)
+    → (shape : List ℕ → Data → OrFault X)
+    → ((name : List ℕ) (d : Data) → IsRead d → IfOk (shape name d) (IsNamed P name_of name))
+    → (ms : Members) → MembersHaveUtf8 ms → MembersAscend ms
+    → IfOk (each_named shape ms) (AreNamed P name_of ms)
+each_named-Are P name_of shape is no_members u a = (tt, refl)
+each_named-Are P name_of shape is (member l e ms) u a =
+    IfOk-then (IsNamed P name_of l) (AreNamed P name_of (member l e ms)) (shape l e) _
+    (is l e (u.1, a.0)) (λ x p.
+    IfOk-then (AreNamed P name_of ms) (AreNamed P name_of (member l e ms)) (each_named shape ms) _
+    (each_named-Are P name_of shape is ms u.2 a.1) (λ xs q. ((p.0, q.0), λ i. p.1 i ∷ q.1 i)))
+
+-- what the members of an object are read as stands in byte order of their names
+members-AreInOrder : {X : Type 0} (P : X → Type 0) (name_of : X → List ℕ)
+    → (shape : List ℕ → Data → OrFault X)
+    → ((name : List ℕ) (d : Data) → IsRead d → IfOk (shape name d) (IsNamed P name_of name))
+    → (ms : Members) → AreRead ms → IfOk (each_named shape ms) (AreInOrder P name_of)
+members-AreInOrder P name_of shape is ms h =
+    IfOk-weaker (AreNamed P name_of ms) (AreInOrder P name_of) (each_named shape ms)
+    (each_named-Are P name_of shape is ms h.0 h.1.1)
+    (λ xs are. (
       are.0,
       subst (λ names. IsStrictlySortedBy (slice_cmp nat_cmp) names)
           (sym are.1) h.1.0,
     ))
 
+-- ---- fields and filters
+
+json_field-Is : (m : Member) (name : List ℕ) (d : Data) → IsRead d
+    → IfOk (json_field m name d) (IsNamed IsFieldText (λ field. field.name) name)
+unfolding json_field
+json_field-Is m name d h =
+    let Is = IsNamed IsFieldText (λ field. field.name) name in
+    IfOk-unless Is (is_name name) (BadMember m) _ (λ is.
+    IfOk-then IsUtf8 Is (json_text m d) _ (json_text-IsUtf8 m d h) (λ text u. ((is, u), refl)))
+
 pub json_fields-Are : (m : Member) (d : Data) → IsRead d → IfOk (json_fields m d) AreFields
 unfolding json_fields
 json_fields-Are m d h =
-    IfOk-then AreRead AreFields (json_object m d) (fields_each m) (json_object-AreRead m d h)
-    (members-AreFields m)
+    IfOk-then AreRead AreFields (json_object m d) _ (json_object-AreRead m d h)
+    (members-AreInOrder IsFieldText (λ field. field.name) (json_field m) (json_field-Is m))
 
 pub json_lines-Are : (m : Member) (d : Data) → IsRead d
     → IfOk (json_lines m d) (AllByRecursion AreFields)
 unfolding json_lines
 json_lines-Are m d h = json_list-All (json_fields m) AreFields (json_fields-Are m) m d h
+
+json_filter-Is : (m : Member) (name : List ℕ) (d : Data) → IsRead d
+    → IfOk (json_filter m name d) (IsNamed IsFilterText (λ filter. filter.name) name)
+unfolding json_filter
+json_filter-Is m name d h =
+    let Is = IsNamed IsFilterText (λ filter. filter.name) name in
+    IfOk-unless Is (is_name name) (BadMember m) _ (λ is.
+    IfOk-then (AllByRecursion IsUtf8) Is (json_texts m d) _ (json_texts-All m d h)
+    (λ values v. ((is, v), refl)))
+
+pub json_filters-Are : (m : Member) (d : Data) → IsRead d → IfOk (json_filters m d) AreFilters
+unfolding json_filters
+json_filters-Are m d h =
+    IfOk-then AreRead AreFilters (json_object m d) _ (json_object-AreRead m d h)
+    (members-AreInOrder IsFilterText (λ filter. filter.name) (json_filter m) (json_filter-Is m))
+
+pub json_names-Are : (m : Member) (d : Data) → IsRead d → IfOk (json_names m d) AreNames
+unfolding json_names
+json_names-Are m d h = json_list-All (json_name m) IsName (json_name-IsName m) m d h
+
+-- ---- words of tables
+
+pub json_date_end-IsDate : (m : Member) (d : Data) → IsRead d → IfOk (json_date_end m d) IsDate
+unfolding json_date_end
+json_date_end-IsDate m d h =
+    IfOk-next IsDate (json_text m d) _ (λ text.
+    IfOk-some_or IsDate (result_ok (parse_date_end text)) (BadMember m)
+    (IfSome-result_ok IsDate (parse_date_end text) (parse_date_end-within text)))
+
+unfoldable IsIfAccountBy : Option Periodicity → Type 0
+IsIfAccountBy by = IfSome by IsAccountBy
+
+none_is : IsIfAccountBy None
+unfolding IsIfAccountBy
+none_is = tt
+
+if_account_by : (test : Bool) (by : Periodicity) (others : Option Periodicity) → IsAccountBy by
+    → IsIfAccountBy others → IsIfAccountBy (if test then Some by else others)
+unfolding IsIfAccountBy
+if_account_by true by others is h = is
+if_account_by false by others is h = h
+
+account_by_named-Is : (word : List ℕ) → IsIfAccountBy (account_by_named word)
+account_by_named-Is word =
+    if_account_by _ Period _ refl (if_account_by _ Day _ refl (if_account_by _ Week _ refl
+    (if_account_by _ TenDays _ refl (if_account_by _ Month _ refl (if_account_by _ Quarter _ refl
+    (if_account_by _ HalfYear _ refl (if_account_by _ Year _ refl none_is)))))))
+
+pub json_account_by-Is : (m : Member) (d : Data) → IsRead d
+    → IfOk (json_account_by m d) IsAccountBy
+unfolding json_account_by IsIfAccountBy
+json_account_by-Is m d h =
+    IfOk-next IsAccountBy (json_text m d) _ (λ word.
+    IfOk-some_or IsAccountBy (account_by_named word) (BadMember m) (account_by_named-Is word))

@@ -15,9 +15,17 @@ use Rattle.reg_base.specs.declared.cut.Cut.{Cut}
 use Rattle.reg_base.specs.declared.records.Mark.{Mark}
 use Rattle.reg_base.specs.declared.records.Mark.TheVariants.{Receipt, Expense, Turn}
 use Rattle.reg_base.specs.declared.records.Side.{Side}
-use Rattle.reg_base.proofs.ForAbove.{parse_date-text, parse_cut-text}
+use Rattle.reg_base.specs.declared.tables.Periodicity.{Periodicity}
+use Rattle.reg_base.specs.declared.tables.Periodicity.TheVariants.{Period, Record, Recorder, Day}
+use Rattle.reg_base.specs.declared.tables.Periodicity.TheVariants.{Week, TenDays, Month, Quarter}
+use Rattle.reg_base.specs.declared.tables.Periodicity.TheVariants.{HalfYear, Year}
+use Rattle.reg_base.specs.declared.tables.Method.{Method}
+use Rattle.reg_base.specs.declared.tables.Method.TheVariants.{Movements}
+use Rattle.reg_base.specs.declared.tables.Method.TheVariants.{MovementsAndPeriodBoundaries}
+use Rattle.reg_base.proofs.ForAbove.{parse_date-text, parse_date_end-text, parse_cut-text}
 use Rattle.desk_words.specs.declared.fault.Member.{Member}
 use Rattle.desk_words.specs.declared.request.FieldText.{FieldText}
+use Rattle.desk_words.specs.declared.request.FilterText.{FilterText}
 use Rattle.desk_words.specs.declared.request.SetText.{SetText}
 use Rattle.desk_words.specs.declared.request.RecordText.{RecordText}
 use Rattle.desk_words.specs.declared.request.RecordText.TheVariants.{Register, Ledger}
@@ -27,13 +35,19 @@ use Rattle.desk_words.specs.Shapes.{json_name, json_code, json_date, json_cut, j
 use Rattle.desk_words.specs.Shapes.{json_each, json_texts, json_codes, json_comment}
 use Rattle.desk_words.specs.Sets.{json_mark, json_side, register_record, ledger_record, json_record}
 use Rattle.desk_words.specs.Sets.{json_records, json_set, json_sets}
-use Rattle.desk_words.specs.Fields.{json_field, fields_each, json_fields, json_lines}
-use Rattle.desk_words.specs.FieldTexts.{put_fields, fields_data, lines_data}
-use Rattle.desk_words.specs.JsonValues.{whole, texts_data}
+use Rattle.desk_words.specs.Shapes.{json_names, json_date_end, each_named}
+use Rattle.desk_words.specs.Fields.{json_field, json_fields, json_lines}
+use Rattle.desk_words.specs.TableShapes.{json_filter, json_filters, json_by, json_account_by}
+use Rattle.desk_words.specs.TableShapes.{json_method}
+use Rattle.desk_words.specs.FieldTexts.{fields_data, lines_data}
+use Rattle.desk_words.specs.JsonValues.{whole, texts_data, put_named}
+use Rattle.desk_words.specs.TableTexts.{by_data, method_data, date_data, filters_data}
+use Rattle.desk_words.specs.WellFormedTables.{IsFilterText, AreFilters, AreNames, IsAccountBy}
 use Rattle.desk_words.specs.RequestTexts.{mark_name, side_data, register_data, ledger_data}
 use Rattle.desk_words.specs.RequestTexts.{record_data, set_data, sets_data}
-use Rattle.desk_words.specs.WellFormed.{IsCode, IsName, IsNumber, IsDate, IsComment, IsFieldText}
-use Rattle.desk_words.specs.WellFormed.{field_names, AreFields, IsSide, IsRecordText, IsSetText}
+use Rattle.desk_words.specs.WellFormedParts.{IsCode, IsName, IsNumber, IsDate, IsComment}
+use Rattle.desk_words.specs.WellFormed.{IsFieldText, AreFields, IsSide, IsRecordText}
+use Rattle.desk_words.specs.WellFormed.{IsSetText}
 
 -- ---- lists, records and sets are read from their JSON
 
@@ -127,7 +141,7 @@ pub json_comment-back : (m : Member) (text : List ℕ) → IsComment text
 unfolding json_comment json_text
 json_comment-back m text is = rw is.0
 
--- ---- fields
+-- ---- members under their names
 
 -- members before others
 abbrev before : Members → Members → Members
@@ -152,67 +166,132 @@ put-last : (k : List ℕ) (d : Data) (ms : Members) → IsBehind k ms
 put-last k d no_members h = refl
 put-last k d (member l e ms) h = rw h.0 (ap (member l e) (put-last k d ms h.1))
 
--- a field as the only member
-abbrev one_member : FieldText → Members
-one_member field = member field.name (string field.text) no_members
+-- the elements of a list as members, in their order
+abbrev members_of_named : {X : Type 0} → (X → List ℕ) → (X → Data) → List X → Members
+members_of_named name_of data_of [] = no_members
+members_of_named name_of data_of (x ∷ xs) =
+    member (name_of x) (data_of x) (members_of_named name_of data_of xs)
 
--- fields as members, in their order
-abbrev members_of_fields : List FieldText → Members
-members_of_fields [] = no_members
-members_of_fields (field ∷ fields) =
-    member field.name (string field.text) (members_of_fields fields)
+behind-last : (name k : List ℕ) (d : Data) (front : Members) → IsBehind name front
+    → slice_cmp nat_cmp name k ≡ Greater → IsBehind name (before front (member k d no_members))
+behind-last name k d no_members h p = (p, tt)
+behind-last name k d (member l e ms) h p = (h.0, behind-last name k d ms h.1 p)
 
-behind-last : (name : List ℕ) (field : FieldText) (front : Members) → IsBehind name front
-    → slice_cmp nat_cmp name field.name ≡ Greater → IsBehind name (before front (one_member field))
-behind-last name field no_members h p = (p, tt)
-behind-last name field (member l e ms) h p = (h.0, behind-last name field ms h.1 p)
+-- the names of all elements come behind those of the members
+abbrev AreBehind : {X : Type 0} → (X → List ℕ) → List X → Members → Type 0
+AreBehind name_of xs front = AllByRecursion (λ x. IsBehind (name_of x) front) xs
 
--- the names of all fields come behind those of the members
-abbrev AreBehind : List FieldText → Members → Type 0
-AreBehind fields front = AllByRecursion (λ (f : FieldText). IsBehind f.name front) fields
-
-are_behind-last : (field : FieldText) (front : Members) (fields : List FieldText)
-    → AreBehind fields front
-    → AllByRecursion (λ n. slice_cmp nat_cmp field.name n ≡ Less) (field_names fields)
-    → AreBehind fields (before front (one_member field))
-are_behind-last field front [] h less = tt
-are_behind-last field front (f ∷ fields) h less = (
-  behind-last f.name field front h.0
-      (nat_list_cmp_total.antisymm f.name field.name ∙ ap ordering_reverse less.0),
-  are_behind-last field front fields h.1 less.1,
+are_behind-last : {X : Type 0} (name_of : X → List ℕ) (k : List ℕ) (d : Data) (front : Members)
+    → (xs : List X) → AreBehind name_of xs front
+    → AllByRecursion (λ n. slice_cmp nat_cmp k n ≡ Less) (map name_of xs)
+    → AreBehind name_of xs (before front (member k d no_members))
+are_behind-last name_of k d front [] h less = tt
+are_behind-last name_of k d front (x ∷ xs) h less = (
+  behind-last (name_of x) k d front h.0
+      (nat_list_cmp_total.antisymm (name_of x) k ∙ ap ordering_reverse less.0),
+  are_behind-last name_of k d front xs h.1 less.1,
 )
 
-are_behind-none : (fields : List FieldText) → AreBehind fields no_members
-are_behind-none [] = tt
-are_behind-none (field ∷ fields) = (tt, are_behind-none fields)
+are_behind-none : {X : Type 0} (name_of : X → List ℕ) (xs : List X)
+    → AreBehind name_of xs no_members
+are_behind-none name_of [] = tt
+are_behind-none name_of (x ∷ xs) = (tt, are_behind-none name_of xs)
 
--- fields in byte order of their names stay in their order
-put_fields-in_order : (front : Members) (fields : List FieldText) → AreBehind fields front
-    → IsStrictlySortedBy (slice_cmp nat_cmp) (field_names fields)
-    → put_fields front fields ≡ before front (members_of_fields fields)
+-- elements in byte order of their names stay in their order
+put_named-in_order : {X : Type 0} (name_of : X → List ℕ) (data_of : X → Data) (front : Members)
+    → (xs : List X) → AreBehind name_of xs front
+    → IsStrictlySortedBy (slice_cmp nat_cmp) (map name_of xs)
+    → put_named name_of data_of front xs ≡ before front (members_of_named name_of data_of xs)
 unfolding IsStrictlySortedBy
-put_fields-in_order front [] h sorted = sym (before-none front)
-put_fields-in_order front (field ∷ fields) h sorted =
-    ap (λ ms. put_fields ms fields) (put-last field.name (string field.text) front h.0)
-    ∙ put_fields-in_order (before front (one_member field)) fields
-    (are_behind-last field front fields h.1 sorted.0) sorted.1
-    ∙ before-assoc front (one_member field) (members_of_fields fields)
+put_named-in_order name_of data_of front [] h sorted = sym (before-none front)
+put_named-in_order name_of data_of front (x ∷ xs) h sorted =
+    let one = member (name_of x) (data_of x) no_members in
+    ap (λ ms. put_named name_of data_of ms xs) (put-last (name_of x) (data_of x) front h.0)
+    ∙ put_named-in_order name_of data_of (before front one) xs
+    (are_behind-last name_of (name_of x) (data_of x) front xs h.1 sorted.0) sorted.1
+    ∙ before-assoc front one (members_of_named name_of data_of xs)
 
-fields_each-back : (m : Member) (fields : List FieldText) → AllByRecursion IsFieldText fields
-    → fields_each m (members_of_fields fields) ≡ Ok fields
+-- where each element is read from what stands for it, the members are
+each_named-back : {X : Type 0} (name_of : X → List ℕ) (data_of : X → Data)
+    → (shape : List ℕ → Data → OrFault X) (P : X → Type 0)
+    → ((x : X) → P x → shape (name_of x) (data_of x) ≡ Ok x) → (xs : List X)
+    → AllByRecursion P xs → IsStrictlySortedBy (slice_cmp nat_cmp) (map name_of xs)
+    → each_named shape (put_named name_of data_of no_members xs) ≡ Ok xs
+each_named-back {X} name_of data_of shape P back xs all sorted =
+    ap (each_named shape) (put_named-in_order name_of data_of no_members xs
+    (are_behind-none name_of xs) sorted)
+    ∙ each xs all
+  where
+    each : (ys : List X) → AllByRecursion P ys
+        → each_named shape (members_of_named name_of data_of ys) ≡ Ok ys
+    each [] h = refl
+    each (y ∷ ys) h = rw (back y h.0, each ys h.1)
+
+-- ---- fields and filters
+
+json_field-back : (m : Member) (field : FieldText) → IsFieldText field
+    → json_field m field.name (string field.text) ≡ Ok field
 unfolding json_field json_text
-fields_each-back m [] h = refl
-fields_each-back m (field ∷ fields) h = rw (h.0.0, fields_each-back m fields h.1)
+json_field-back m field is = rw is.0
 
 pub json_fields-back : (m : Member) (fields : List FieldText) → AreFields fields
     → json_fields m (fields_data fields) ≡ Ok fields
 unfolding json_fields json_object
 json_fields-back m fields h =
-    ap (fields_each m) (put_fields-in_order no_members fields (are_behind-none fields) h.1)
-    ∙ fields_each-back m fields h.0
+    each_named-back (λ (field : FieldText). field.name) (λ (field : FieldText). string field.text)
+    (json_field m) IsFieldText (json_field-back m) fields h.0 h.1
 
 pub json_lines-back : (m : Member) (lines : List (List FieldText))
     → AllByRecursion AreFields lines → json_lines m (lines_data lines) ≡ Ok lines
 unfolding json_lines json_items lines_data
 json_lines-back m lines h =
     json_each-back (json_fields m) fields_data AreFields (json_fields-back m) lines h
+
+json_filter-back : (m : Member) (filter : FilterText) → IsFilterText filter
+    → json_filter m filter.name (texts_data filter.values) ≡ Ok filter
+unfolding json_filter
+json_filter-back m filter is = rw (is.0, json_texts-back m filter.values)
+
+pub json_filters-back : (m : Member) (filters : List FilterText) → AreFilters filters
+    → json_filters m (filters_data filters) ≡ Ok filters
+unfolding json_filters json_object
+json_filters-back m filters h =
+    each_named-back (λ (filter : FilterText). filter.name)
+    (λ (filter : FilterText). texts_data filter.values)
+    (json_filter m) IsFilterText (json_filter-back m) filters h.0 h.1
+
+pub json_names-back : (m : Member) (names : List (List ℕ)) → AreNames names
+    → json_names m (texts_data names) ≡ Ok names
+unfolding json_names json_items texts_data
+json_names-back m names h = json_each-back (json_name m) string IsName (json_name-back m) names h
+
+-- ---- words of tables
+
+pub json_date_end-back : (m : Member) (date : ℕ) → IsDate date
+    → json_date_end m (date_data date) ≡ Ok date
+unfolding json_date_end json_text
+json_date_end-back m date within = rw (parse_date_end-text date within)
+
+pub json_by-back : (m : Member) (by : Periodicity) → json_by m (by_data by) ≡ Ok by
+unfolding json_by json_text
+json_by-back m Period = refl
+json_by-back m Record = refl
+json_by-back m Recorder = refl
+json_by-back m Day = refl
+json_by-back m Week = refl
+json_by-back m TenDays = refl
+json_by-back m Month = refl
+json_by-back m Quarter = refl
+json_by-back m HalfYear = refl
+json_by-back m Year = refl
+
+pub json_account_by-back : (m : Member) (by : Periodicity) → IsAccountBy by
+    → json_account_by m (by_data by) ≡ Ok by
+unfolding json_account_by json_text
+json_account_by-back m by is = rw is
+
+pub json_method-back : (m : Member) (method : Method)
+    → json_method m (method_data method) ≡ Ok method
+unfolding json_method json_text
+json_method-back m Movements = refl
+json_method-back m MovementsAndPeriodBoundaries = refl

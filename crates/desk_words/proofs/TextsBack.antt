@@ -13,7 +13,7 @@ use Rattle.desk_words.specs.Reading.{operation_of, check_present, check_known, m
 use Rattle.desk_words.specs.Reading.{request_in, request_of_text}
 use Rattle.desk_words.specs.JsonValues.{whole}
 use Rattle.desk_words.specs.RequestTexts.{request_data, request_text}
-use Rattle.desk_words.specs.WellFormed.{IsNumber, IsComment}
+use Rattle.desk_words.specs.WellFormedParts.{IsNumber, IsComment}
 use Rattle.desk_words.proofs.Documents.{json_document-text}
 
 -- the text of a plain object is read as its members

@@ -7,15 +7,11 @@ use Rattle.serde_json.specs.Data.{Data, null, boolean, number, string, array, ob
 use Rattle.serde_json.specs.Data.{Members}
 use Rattle.serde_json.specs.Find.{as_object}
 use Rattle.json_laws.specs.Plain.{HasUtf8}
-use Rattle.reg_base.specs.Cuts.{IsCut}
-use Rattle.reg_base.specs.Results.{◌>>=◌, some_or, none_or, Gives}
+use Rattle.reg_base.specs.Results.{some_or, none_or, Gives}
 use Rattle.reg_base.proofs.ForAbove.{IfOk-then, IfOk-next, IfOk-unless}
-use Rattle.desk_words.specs.declared.fault.Member.{Member}
 use Rattle.desk_words.specs.declared.fault.Member.TheVariants.{Clerk, No, Key, Kind, Date, Head}
 use Rattle.desk_words.specs.declared.fault.Member.TheVariants.{Lines, On, Sets, Comment}
 use Rattle.desk_words.specs.declared.fault.Member.TheVariants.{Doc as Doc_word}
-use Rattle.desk_words.specs.declared.fault.Member.TheVariants.{Register as Register_word}
-use Rattle.desk_words.specs.declared.fault.Member.TheVariants.{Cut as Cut_word}
 use Rattle.desk_words.specs.declared.fault.WordFault.{WordFault}
 use Rattle.desk_words.specs.declared.fault.WordFault.TheVariants.{BadMember, NotJson, Memory}
 use Rattle.desk_words.specs.declared.members.Operation.{Operation}
@@ -29,6 +25,14 @@ use Rattle.desk_words.specs.declared.members.Operation.TheVariants.{Balance as B
 use Rattle.desk_words.specs.declared.members.Operation.TheVariants.{Doc as Doc_op}
 use Rattle.desk_words.specs.declared.members.Operation.TheVariants.{Post as Post_op, PostStanding}
 use Rattle.desk_words.specs.declared.members.Operation.TheVariants.{Unpost as Unpost_op}
+use Rattle.desk_words.specs.declared.members.Operation.TheVariants.{Turnovers as Turnovers_op}
+use Rattle.desk_words.specs.declared.members.Operation.TheVariants.{Both as Both_op}
+use Rattle.desk_words.specs.declared.members.Operation.TheVariants.{AccountBalance as Held_op}
+use Rattle.desk_words.specs.declared.members.Operation.TheVariants.{AccountTurnovers as Moved_op}
+use Rattle.desk_words.specs.declared.members.Operation.TheVariants.{AccountBoth as Whole_op}
+use Rattle.desk_words.specs.declared.members.Operation.TheVariants.{DrCr as DrCr_op}
+use Rattle.desk_words.specs.declared.members.Operation.TheVariants.{Documents as Documents_op}
+use Rattle.desk_words.specs.declared.read_requests.Heading.{Heading}
 use Rattle.desk_words.specs.declared.request.Request.{Request}
 use Rattle.desk_words.specs.declared.request.Request.TheVariants.{Write as Write_request}
 use Rattle.desk_words.specs.declared.request.Request.TheVariants.{Mark as Mark_request}
@@ -40,47 +44,45 @@ use Rattle.desk_words.specs.declared.request.Request.TheVariants.{Balance as Bal
 use Rattle.desk_words.specs.declared.request.Request.TheVariants.{Doc as Doc_request}
 use Rattle.desk_words.specs.declared.request.Request.TheVariants.{Post as Post_request}
 use Rattle.desk_words.specs.declared.request.Request.TheVariants.{Unpost as Unpost_request}
+use Rattle.desk_words.specs.declared.request.Request.TheVariants.{Turnovers as Turnovers_request}
+use Rattle.desk_words.specs.declared.request.Request.TheVariants.{Both as Both_request}
+use Rattle.desk_words.specs.declared.request.Request.TheVariants.{AccountBalance as Held_request}
+use Rattle.desk_words.specs.declared.request.Request.TheVariants.{AccountTurnovers as Moved_request}
+use Rattle.desk_words.specs.declared.request.Request.TheVariants.{AccountBoth as Whole_request}
+use Rattle.desk_words.specs.declared.request.Request.TheVariants.{DrCr as DrCr_request}
+use Rattle.desk_words.specs.declared.request.Request.TheVariants.{Documents as Documents_request}
 use Rattle.desk_words.specs.declared.request.Post.TheVariants.{Content, Standing}
 use Rattle.desk_words.specs.Members.{content_members, first_present}
-use Rattle.desk_words.specs.Shapes.{OrFault, required_at, optional_at, json_name, json_code}
-use Rattle.desk_words.specs.Shapes.{json_number, json_date, json_cut, json_boolean, json_comment}
+use Rattle.desk_words.specs.Shapes.{required_at, json_name, json_code, json_number, json_date}
+use Rattle.desk_words.specs.Shapes.{json_boolean, json_comment}
 use Rattle.desk_words.specs.Sets.{json_sets}
 use Rattle.desk_words.specs.Fields.{json_fields, json_lines}
-use Rattle.desk_words.specs.ReadRequests.{key_beside, write_request, switch_request}
+use Rattle.desk_words.specs.ReadRequests.{key_beside, heading_of, write_request, switch_request}
 use Rattle.desk_words.specs.ReadRequests.{manual_request, close_request, sweep_request}
-use Rattle.desk_words.specs.ReadRequests.{balance_request, doc_question, standing_document}
+use Rattle.desk_words.specs.ReadRequests.{doc_question, standing_document}
 use Rattle.desk_words.specs.ReadRequests.{standing_post}
+use Rattle.desk_words.specs.ReadTables.{balance_request, turnovers_request, both_request}
+use Rattle.desk_words.specs.ReadTables.{account_balance_request, account_turnovers_request}
+use Rattle.desk_words.specs.ReadTables.{dr_cr_request, documents_question}
 use Rattle.desk_words.specs.Reading.{json_document, operation_of, check_present, check_known}
 use Rattle.desk_words.specs.Reading.{members_of, request_in}
-use Rattle.desk_words.specs.WellFormed.{IsName, IsCode, IsNumber, IsDate, IsComment, AreFields}
-use Rattle.desk_words.specs.WellFormed.{IsSetText, IsWriteRequest, IsSwitch, IsManualRequest}
-use Rattle.desk_words.specs.WellFormed.{IsCloseRequest, IsSweepRequest, IsBalanceRequest}
+use Rattle.desk_words.specs.WellFormedParts.{IsName, IsCode, IsNumber, IsDate, IsComment}
+use Rattle.desk_words.specs.WellFormedTables.{IsBalanceRequest, IsTurnovers, IsBoth}
+use Rattle.desk_words.specs.WellFormedTables.{IsAccountBalance, IsAccountTurnovers, IsDrCr}
+use Rattle.desk_words.specs.WellFormedTables.{IsDocumentsQuestion}
+use Rattle.desk_words.specs.WellFormed.{AreFields, IsSetText, IsWriteRequest, IsSwitch}
+use Rattle.desk_words.specs.WellFormed.{IsManualRequest, IsCloseRequest, IsSweepRequest}
 use Rattle.desk_words.specs.WellFormed.{IsDocQuestion, IsStandingDocument, IsRequest}
 use Rattle.desk_words.proofs.OrderLemmas.{NamesAscend, json_document-ascends}
-use Rattle.desk_words.proofs.ReadValues.{IsRead, AreRead, IsIf, required_at-Is, optional_at-Is}
+use Rattle.desk_words.proofs.ReadValues.{IsRead, AreRead}
 use Rattle.desk_words.proofs.ShapeLemmas.{json_name-IsName, json_code-IsCode, json_date-IsDate}
-use Rattle.desk_words.proofs.ShapeLemmas.{json_cut-IsCut, json_number-IsNumber}
+use Rattle.desk_words.proofs.ShapeLemmas.{json_number-IsNumber}
 use Rattle.desk_words.proofs.ShapeLemmas.{json_comment-IsComment, json_sets-Is, json_fields-Are}
 use Rattle.desk_words.proofs.ShapeLemmas.{json_lines-Are}
-
--- ---- how each member is read
-
--- a member that is asked for, whose shape gives what has P, and then what has Q
-asked : {X Y : Type 0} (P : X → Type 0) (Q : Y → Type 0) (shape : Member → Data → OrFault X)
-    → ((m : Member) (d : Data) → IsRead d → IfOk (shape m d) P)
-    → (m : Member) (object : Members) → AreRead object → (next : X → OrFault Y)
-    → ((x : X) → P x → IfOk (next x) Q) → IfOk (required_at shape m object >>= next) Q
-asked P Q shape is m object h next then_is =
-    IfOk-then P Q (required_at shape m object) next (required_at-Is P shape is m object h) then_is
-
--- the same of a member that may be absent
-allowed : {X Y : Type 0} (P : X → Type 0) (Q : Y → Type 0) (shape : Member → Data → OrFault X)
-    → ((m : Member) (d : Data) → IsRead d → IfOk (shape m d) P)
-    → (m : Member) (object : Members) → AreRead object → (next : Option X → OrFault Y)
-    → ((o : Option X) → IsIf P o → IfOk (next o) Q) → IfOk (optional_at shape m object >>= next) Q
-allowed P Q shape is m object h next then_is =
-    IfOk-then (IsIf P) Q (optional_at shape m object) next
-    (optional_at-Is P shape is m object h) then_is
+use Rattle.desk_words.proofs.TableLemmas.{asked, allowed, balance_request-Is, turnovers_request-Is}
+use Rattle.desk_words.proofs.TableLemmas.{both_request-Is, account_balance_request-Is}
+use Rattle.desk_words.proofs.TableLemmas.{account_turnovers_request-Is, dr_cr_request-Is}
+use Rattle.desk_words.proofs.TableLemmas.{documents_question-Is}
 
 -- ---- a document's number and its key
 
@@ -101,16 +103,33 @@ key_beside-Is doc object h =
     IfOk-unless (IsKeyBeside doc) (is_none doc || is_none key) (BadMember Key) (λ _. Ok key)
     (λ is. (k, stands_alone doc key is)))
 
+-- whose request it is, and which document it is of
+record IsHeading (given : Heading) : Type 0 where
+  clerk : IsName given.clerk
+  number : IsNumber given.no
+  doc : IfSome given.doc IsNumber
+  key : IsKeyBeside given.doc given.key
+
+heading-Is : (object : Members) → AreRead object → IfOk (heading_of object) IsHeading
+unfolding heading_of
+heading-Is object h =
+    asked IsName IsHeading json_name json_name-IsName Clerk object h _ (λ clerk c.
+    asked IsNumber IsHeading json_number json_number-IsNumber No object h _ (λ nr n.
+    allowed IsNumber IsHeading json_number json_number-IsNumber Doc_word object h _ (λ doc d.
+    IfOk-then (IsKeyBeside doc) IsHeading (key_beside doc object) _
+    (key_beside-Is doc object h) (λ key k. record {
+      clerk = c;
+      number = n;
+      doc = d;
+      key = k;
+    }))))
+
 -- ---- requests
 
 write_request-Is : (object : Members) → AreRead object → IfOk (write_request object) IsWriteRequest
 unfolding write_request
 write_request-Is object h =
-    asked IsName IsWriteRequest json_name json_name-IsName Clerk object h _ (λ clerk c.
-    asked IsNumber IsWriteRequest json_number json_number-IsNumber No object h _ (λ nr n.
-    allowed IsNumber IsWriteRequest json_number json_number-IsNumber Doc_word object h _ (λ doc d.
-    IfOk-then (IsKeyBeside doc) IsWriteRequest (key_beside doc object) _
-    (key_beside-Is doc object h) (λ key k.
+    IfOk-then IsHeading IsWriteRequest (heading_of object) _ (heading-Is object h) (λ given g.
     asked IsName IsWriteRequest json_name json_name-IsName Kind object h _ (λ kind l.
     asked IsDate IsWriteRequest json_date json_date-IsDate Date object h _ (λ date t.
     asked AreFields IsWriteRequest json_fields json_fields-Are Head object h _ (λ head f.
@@ -118,18 +137,18 @@ write_request-Is object h =
     (λ lines fs.
     allowed IsComment IsWriteRequest json_comment json_comment-IsComment Comment object h _
     (λ comment m. record {
-      clerk = c;
-      number = n;
-      doc = d;
-      key = k.0;
-      alone = k.1;
+      clerk = g.clerk;
+      number = g.number;
+      doc = g.doc;
+      key = g.key.0;
+      alone = g.key.1;
       kind = l;
       date = t;
       head = f;
       lines = fs;
       comment = m;
       no_tx = refl;
-    })))))))))
+    }))))))
 
 standing_document-Is : (object : Members) → AreRead object
     → IfOk (standing_document object) IsStandingDocument
@@ -158,40 +177,35 @@ standing_post-Is object h =
 switch_request-Is : (object : Members) → AreRead object → IfOk (switch_request object) IsSwitch
 unfolding switch_request
 switch_request-Is object h =
-    asked IsName IsSwitch json_name json_name-IsName Clerk object h _ (λ clerk c.
-    asked IsNumber IsSwitch json_number json_number-IsNumber No object h _ (λ nr n.
-    asked IsNumber IsSwitch json_number json_number-IsNumber Doc_word object h _ (λ doc d.
+    IfOk-then IsStandingDocument IsSwitch (standing_document object) _
+    (standing_document-Is object h) (λ standing s.
     IfOk-next IsSwitch (required_at json_boolean On object) _ (λ on. record {
-      clerk = c;
-      number = n;
-      doc = d;
+      clerk = s.clerk;
+      number = s.number;
+      doc = s.doc;
       no_tx = refl;
-    }))))
+    }))
 
 manual_request-Is : (object : Members) → AreRead object
     → IfOk (manual_request object) IsManualRequest
 unfolding manual_request
 manual_request-Is object h =
-    asked IsName IsManualRequest json_name json_name-IsName Clerk object h _ (λ clerk c.
-    asked IsNumber IsManualRequest json_number json_number-IsNumber No object h _ (λ nr n.
-    allowed IsNumber IsManualRequest json_number json_number-IsNumber Doc_word object h _ (λ doc d.
-    IfOk-then (IsKeyBeside doc) IsManualRequest (key_beside doc object) _
-    (key_beside-Is doc object h) (λ key k.
+    IfOk-then IsHeading IsManualRequest (heading_of object) _ (heading-Is object h) (λ given g.
     asked IsDate IsManualRequest json_date json_date-IsDate Date object h _ (λ date t.
     asked (AllByRecursion IsSetText) IsManualRequest json_sets json_sets-Is Sets object h _
     (λ sets s.
     allowed IsComment IsManualRequest json_comment json_comment-IsComment Comment object h _
     (λ comment m. record {
-      clerk = c;
-      number = n;
-      doc = d;
-      key = k.0;
-      alone = k.1;
+      clerk = g.clerk;
+      number = g.number;
+      doc = g.doc;
+      key = g.key.0;
+      alone = g.key.1;
       date = t;
       sets = s;
       comment = m;
       no_tx = refl;
-    })))))))
+    }))))
 
 close_request-Is : (object : Members) → AreRead object → IfOk (close_request object) IsCloseRequest
 unfolding close_request
@@ -207,30 +221,12 @@ close_request-Is object h =
 sweep_request-Is : (object : Members) → AreRead object → IfOk (sweep_request object) IsSweepRequest
 unfolding sweep_request
 sweep_request-Is object h =
-    asked IsName IsSweepRequest json_name json_name-IsName Clerk object h _ (λ clerk c.
-    asked IsNumber IsSweepRequest json_number json_number-IsNumber No object h _ (λ nr n.
-    asked IsNumber IsSweepRequest json_number json_number-IsNumber Doc_word object h _ (λ doc d.
-    record {
-      clerk = c;
-      number = n;
-      doc = d;
-    })))
-
-balance_request-Is : (object : Members) → AreRead object
-    → IfOk (balance_request object) IsBalanceRequest
-unfolding balance_request
-balance_request-Is object h =
-    asked IsName IsBalanceRequest json_name json_name-IsName Clerk object h _ (λ clerk c.
-    asked IsName IsBalanceRequest json_name json_name-IsName Register_word object h _
-    (λ register r.
-    allowed IsCut IsBalanceRequest json_cut json_cut-IsCut Cut_word object h _ (λ cut u. record {
-      clerk = c;
-      register = r;
-      cut = u;
-      no_filter = refl;
-      no_group = refl;
-      no_tx = refl;
-    })))
+    IfOk-then IsStandingDocument IsSweepRequest (standing_document object) _
+    (standing_document-Is object h) (λ standing s. record {
+      clerk = s.clerk;
+      number = s.number;
+      doc = s.doc;
+    })
 
 doc_question-Is : (object : Members) → AreRead object → IfOk (doc_question object) IsDocQuestion
 unfolding doc_question
@@ -279,6 +275,27 @@ members_of-Is PostStanding object h =
 members_of-Is Unpost_op object h =
     IfOk-then IsStandingDocument IsRequest (standing_document object)
     (λ r. Ok (Unpost_request r)) (standing_document-Is object h) (λ r is. is)
+members_of-Is Turnovers_op object h =
+    IfOk-then IsTurnovers IsRequest (turnovers_request object) (λ r. Ok (Turnovers_request r))
+    (turnovers_request-Is object h) (λ r is. is)
+members_of-Is Both_op object h =
+    IfOk-then IsBoth IsRequest (both_request object) (λ r. Ok (Both_request r))
+    (both_request-Is object h) (λ r is. is)
+members_of-Is Held_op object h =
+    IfOk-then IsAccountBalance IsRequest (account_balance_request object)
+    (λ r. Ok (Held_request r)) (account_balance_request-Is object h) (λ r is. is)
+members_of-Is Moved_op object h =
+    IfOk-then IsAccountTurnovers IsRequest (account_turnovers_request object)
+    (λ r. Ok (Moved_request r)) (account_turnovers_request-Is object h) (λ r is. is)
+members_of-Is Whole_op object h =
+    IfOk-then IsAccountTurnovers IsRequest (account_turnovers_request object)
+    (λ r. Ok (Whole_request r)) (account_turnovers_request-Is object h) (λ r is. is)
+members_of-Is DrCr_op object h =
+    IfOk-then IsDrCr IsRequest (dr_cr_request object) (λ r. Ok (DrCr_request r))
+    (dr_cr_request-Is object h) (λ r is. is)
+members_of-Is Documents_op object h =
+    IfOk-then IsDocumentsQuestion IsRequest (documents_question object)
+    (λ r. Ok (Documents_request r)) (documents_question-Is object h) (λ r is. is)
 
 request_in-Is : (object : Members) → AreRead object → IfOk (request_in object) IsRequest
 unfolding request_in

@@ -14,6 +14,7 @@ use Rattle.desk_words.specs.declared.reply.Refusal.TheVariants.{Control}
 use Rattle.desk_words.specs.Shapes.{value_at, json_object, json_items, json_text, json_name}
 use Rattle.desk_words.specs.Shapes.{json_code, json_date, json_number}
 use Rattle.desk_words.specs.Fields.{json_fields, json_lines}
+use Rattle.desk_words.specs.ReadRequests.{heading_of}
 use Rattle.desk_words.specs.ReadRequests.{key_beside, write_request, standing_document}
 use Rattle.desk_words.specs.ReadRequests.{standing_post}
 use Rattle.desk_words.specs.Reading.{operation_of, check_present, check_known, members_of}
@@ -52,9 +53,9 @@ content_is_posted :
       comment = None;
       tx = None;
     })))
-unfolding request_in operation_of check_present check_known members_of write_request key_beside
-    value_at json_object json_items json_text json_name json_code json_date json_number json_fields
-    json_lines is_name is_code
+unfolding request_in operation_of check_present check_known members_of write_request heading_of
+    key_beside value_at json_object json_items json_text json_name json_code json_date json_number
+    json_fields json_lines is_name is_code
 content_is_posted = rw morning_date
 
 a_document_is_posted_as_it_stands :
@@ -87,8 +88,8 @@ a_type_of_null_is_refused_then :
     (member (codes "kind") null
     (member (codes "lines") null to_post)))))
     ≡ Err (BadMember Kind)
-unfolding request_in operation_of check_present check_known members_of write_request key_beside
-    value_at json_text json_name json_number is_name
+unfolding request_in operation_of check_present check_known members_of write_request heading_of
+    key_beside value_at json_text json_name json_number is_name
 a_type_of_null_is_refused_then = refl
 
 -- without a type it wants a document, whatever content is there

@@ -16,6 +16,7 @@ use Rattle.desk_words.specs.Shapes.{value_at, json_object, json_items, json_text
 use Rattle.desk_words.specs.Shapes.{json_code, json_date, json_number, json_boolean, json_comment}
 use Rattle.desk_words.specs.Sets.{json_sets}
 use Rattle.desk_words.specs.Fields.{json_field, json_fields, json_lines}
+use Rattle.desk_words.specs.ReadRequests.{heading_of, standing_document}
 use Rattle.desk_words.specs.ReadRequests.{key_beside, write_request, switch_request}
 use Rattle.desk_words.specs.ReadRequests.{manual_request, close_request, sweep_request}
 use Rattle.desk_words.specs.ReadRequests.{doc_question}
@@ -62,9 +63,9 @@ a_new_document :
       comment = None;
       tx = None;
     }))
-unfolding request_in operation_of check_present check_known members_of write_request key_beside
-    value_at json_object json_items json_text json_name json_code json_date json_number json_field
-    json_fields json_lines is_name is_code
+unfolding request_in operation_of check_present check_known members_of write_request heading_of
+    key_beside value_at json_object json_items json_text json_name json_code json_date json_number
+    json_field json_fields json_lines is_name is_code
 a_new_document = rw morning_date
 
 a_transaction_is_unknown :
@@ -86,8 +87,8 @@ a_key_beside_a_number :
     (member (codes "no") (number (unsigned 1))
     (member (codes "op") (string (codes "write")) no_members)))))))))
     ≡ Err (BadMember Key)
-unfolding request_in operation_of check_present check_known members_of write_request key_beside
-    value_at json_text json_name json_code json_number is_name is_code
+unfolding request_in operation_of check_present check_known members_of write_request heading_of
+    key_beside value_at json_text json_name json_code json_number is_name is_code
 a_key_beside_a_number = refl
 
 a_wrong_number_before_its_key :
@@ -99,8 +100,8 @@ a_wrong_number_before_its_key :
     (member (codes "op") (string (codes "manual"))
     (member (codes "sets") null no_members)))))))
     ≡ Err (BadMember Doc_word)
-unfolding request_in operation_of check_present check_known members_of manual_request value_at
-    json_text json_name json_number is_name
+unfolding request_in operation_of check_present check_known members_of manual_request heading_of
+    value_at json_text json_name json_number is_name
 a_wrong_number_before_its_key = refl
 
 no_lines :
@@ -139,8 +140,8 @@ a_document_marked :
       on = true;
       tx = None;
     }))
-unfolding request_in operation_of check_present check_known members_of switch_request value_at
-    json_text json_name json_number json_boolean is_name
+unfolding request_in operation_of check_present check_known members_of switch_request
+    standing_document value_at json_text json_name json_number json_boolean is_name
 a_document_marked = refl
 
 an_activity_that_is_no_boolean :
@@ -150,8 +151,8 @@ an_activity_that_is_no_boolean :
     (member (codes "on") null
     (member (codes "op") (string (codes "activity")) no_members)))))
     ≡ Err (BadMember On)
-unfolding request_in operation_of check_present check_known members_of switch_request value_at
-    json_text json_name json_number json_boolean is_name
+unfolding request_in operation_of check_present check_known members_of switch_request
+    standing_document value_at json_text json_name json_number json_boolean is_name
 an_activity_that_is_no_boolean = refl
 
 an_activity :
@@ -167,8 +168,8 @@ an_activity :
       on = false;
       tx = None;
     }))
-unfolding request_in operation_of check_present check_known members_of switch_request value_at
-    json_text json_name json_number json_boolean is_name
+unfolding request_in operation_of check_present check_known members_of switch_request
+    standing_document value_at json_text json_name json_number json_boolean is_name
 an_activity = refl
 
 closed_books :
@@ -187,8 +188,8 @@ a_removal :
     (member (codes "no") (number (unsigned 5))
     (member (codes "op") (string (codes "sweep")) no_members))))
     ≡ Ok (Sweep (record { clerk = codes "anna"; no = 5; doc = 3 }))
-unfolding request_in operation_of check_present check_known members_of sweep_request value_at
-    json_text json_name json_number is_name
+unfolding request_in operation_of check_present check_known members_of sweep_request
+    standing_document value_at json_text json_name json_number is_name
 a_removal = refl
 
 a_question_for_a_document :
@@ -218,9 +219,9 @@ new_records_of_a_document :
       comment = Some (codes "late");
       tx = None;
     }))
-unfolding request_in operation_of check_present check_known members_of manual_request key_beside
-    value_at json_items json_text json_name json_date json_number json_comment json_sets is_name
-    is_comment chars
+unfolding request_in operation_of check_present check_known members_of manual_request heading_of
+    key_beside value_at json_items json_text json_name json_date json_number json_comment json_sets
+    is_name is_comment chars
 new_records_of_a_document = rw morning_date
 
 a_comment_with_a_line_feed : json_comment Comment (string (10 ∷ [])) ≡ Err (BadMember Comment)

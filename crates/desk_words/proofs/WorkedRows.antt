@@ -31,14 +31,17 @@ use Rattle.desk_words.specs.Shapes.{value_at, json_object, json_items, json_text
 use Rattle.desk_words.specs.Shapes.{json_date, json_cut, json_number, json_texts}
 use Rattle.desk_words.specs.Sets.{json_mark, register_record, json_record, json_records, json_set}
 use Rattle.desk_words.specs.Sets.{json_sets}
-use Rattle.desk_words.specs.ReadRequests.{key_beside, manual_request, balance_request}
+use Rattle.desk_words.specs.ReadRequests.{heading_of}
+use Rattle.desk_words.specs.ReadRequests.{key_beside, manual_request}
+use Rattle.desk_words.specs.ReadTables.{asked_register, balance_request}
 use Rattle.desk_words.specs.Reading.{operation_of, check_present, check_known, members_of}
 use Rattle.desk_words.specs.Reading.{request_in}
 use Rattle.desk_words.specs.RequestTexts.{register_data, ledger_data, set_data, sets_data}
-use Rattle.desk_words.specs.RequestTexts.{manual_frame, manual_members, balance_frame}
-use Rattle.desk_words.specs.RequestTexts.{balance_members, request_data, request_text}
+use Rattle.desk_words.specs.RequestTexts.{manual_frame, manual_members, request_data, request_text}
+use Rattle.desk_words.specs.TableTexts.{put_register, balance_members}
 use Rattle.desk_words.specs.JsonValues.{texts_data}
-use Rattle.desk_words.specs.ReplyTexts.{row_data, rows_data, document_data, answer_data}
+use Rattle.desk_words.specs.RowTexts.{row_data}
+use Rattle.desk_words.specs.ReplyTexts.{document_data, answer_data}
 use Rattle.desk_words.specs.ReplyTexts.{reply_data, reply_text}
 use Rattle.desk_words.specs.RefusalTexts.{word_fault_members, post_fault_members, refusal_detail}
 use Rattle.desk_words.specs.RefusalTexts.{refusal_data}
@@ -59,7 +62,7 @@ sets_of_nails =
 abbrev pub morning : List ℕ
 morning = codes "2024-01-10T09:00:00"
 
-morning_text : date_text 758_192_400 ≡ morning
+pub morning_text : date_text 758_192_400 ≡ morning
 unfolding date_text day_text second_text day_of day_from_year day_from_month
 morning_text = refl
 
@@ -89,9 +92,9 @@ a_manual_document :
       comment = None;
       tx = None;
     }))
-unfolding request_in operation_of check_present check_known members_of manual_request key_beside
-    value_at json_object json_items json_text json_name json_date json_number json_texts json_mark
-    register_record json_record json_records json_set json_sets is_name
+unfolding request_in operation_of check_present check_known members_of manual_request heading_of
+    key_beside value_at json_object json_items json_text json_name json_date json_number json_texts
+    json_mark register_record json_record json_records json_set json_sets is_name
 a_manual_document = rw morning_date
 
 a_balance :
@@ -101,14 +104,13 @@ a_balance :
     (member (codes "register") (string (codes "goods")) no_members))))
     ≡ Ok (Balance (record {
       clerk = codes "anna";
-      register = codes "goods";
-      filter = None;
-      group = None;
+      register = record { name = codes "goods"; filter = None; group = None };
       cut = Some (ThroughDate 758_192_400);
       tx = None;
     }))
 unfolding request_in operation_of check_present check_known members_of balance_request
-    value_at json_text json_name json_cut is_name parse_cut cut_by_word cut_through cut_before
+    asked_register value_at json_text json_name json_cut is_name parse_cut cut_by_word cut_through
+    cut_before
 a_balance = rw morning_date
 
 no_operation : request_in (member (codes "clerk") (string (codes "anna")) no_members)
@@ -148,7 +150,7 @@ two_wrong_members :
     (member (codes "register") (string (codes "goods")) no_members))))
     ≡ Err (BadMember Clerk)
 unfolding request_in operation_of check_present check_known members_of balance_request value_at
-    json_text json_name is_name
+    asked_register json_text json_name is_name
 two_wrong_members = refl
 
 null_for_a_cut :
@@ -158,7 +160,7 @@ null_for_a_cut :
     (member (codes "register") (string (codes "goods")) no_members))))
     ≡ Err (BadMember Cut_word)
 unfolding request_in operation_of check_present check_known members_of balance_request
-    value_at json_text json_name json_cut is_name
+    asked_register value_at json_text json_name json_cut is_name
 null_for_a_cut = refl
 
 rows_of_nails :
@@ -166,8 +168,8 @@ rows_of_nails :
     (Done (Rows ((record { group = Code (codes "nail") ∷ []; sums = pos 10000 ∷ pos 5000 ∷ [] })
     ∷ []) (3 ∷ 2 ∷ [])))
     ≡ codes "{\"ok\":{\"rows\":[{\"group\":[\"nail\"],\"sums\":[\"10.000\",\"50.00\"]}]}}"
-unfolding reply_text reply_data answer_data rows_data row_data texts_data sum_text units_text
-    number_text escape_byte
+unfolding reply_text reply_data answer_data row_data texts_data sum_text units_text number_text
+    escape_byte
 rows_of_nails = refl
 
 a_posted_document :
@@ -312,15 +314,12 @@ a_repost_text = refl
 a_balance_text :
     request_text (Balance (record {
       clerk = codes "anna";
-      register = codes "goods";
-      filter =
-          None;
-      group = None;
+      register = record { name = codes "goods"; filter = None; group = None };
       cut = None;
       tx = None;
     }))
     ≡ codes "{\"clerk\":\"anna\",\"op\":\"balance\",\"register\":\"goods\"}"
-unfolding request_text request_data balance_members balance_frame escape_byte
+unfolding request_text request_data balance_members put_register escape_byte
 a_balance_text = refl
 
 a_posting_text :

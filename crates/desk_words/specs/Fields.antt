@@ -1,13 +1,13 @@
 -- The fields of a head and of lines as a request gives them; the fault names the member that they
 -- stand in.
-use Rattle.std.specs.Prelude.{ℕ, List, [], ◌∷◌, Ok}
-use Rattle.serde_json.specs.Data.{Data, Members, no_members, member}
+use Rattle.std.specs.Prelude.{ℕ, List, Ok}
+use Rattle.serde_json.specs.Data.{Data}
 use Rattle.reg_base.specs.Results.{◌>>=◌, unless}
 use Rattle.reg_base.specs.Codes.{is_name}
 use Rattle.desk_words.specs.declared.fault.Member.{Member}
 use Rattle.desk_words.specs.declared.fault.WordFault.TheVariants.{BadMember}
 use Rattle.desk_words.specs.declared.request.FieldText.{FieldText}
-use Rattle.desk_words.specs.Shapes.{OrFault, json_object, json_text, json_list}
+use Rattle.desk_words.specs.Shapes.{OrFault, json_object, json_text, json_list, each_named}
 
 -- a field: its name is one, and its value a text
 unfoldable pub json_field : Member → List ℕ → Data → OrFault FieldText
@@ -16,15 +16,9 @@ json_field m name d = do
   text ← json_text m d
   Ok (record { name = name; text = text })
 
--- each member of an object is a field
-abbrev pub fields_each : Member → Members → OrFault (List FieldText)
-fields_each m no_members = Ok []
-fields_each m (member name d ds) =
-    json_field m name d >>= λ field. fields_each m ds >>= λ fields. Ok (field ∷ fields)
-
 -- an object of fields
 unfoldable pub json_fields : Member → Data → OrFault (List FieldText)
-json_fields m d = json_object m d >>= fields_each m
+json_fields m d = json_object m d >>= each_named (json_field m)
 
 -- a list of such objects
 unfoldable pub json_lines : Member → Data → OrFault (List (List FieldText))

@@ -1,5 +1,5 @@
 -- JSON that requests and replies are both made of.
-use Rattle.std.specs.Prelude.{ℕ, Option, None, Some, List, map}
+use Rattle.std.specs.Prelude.{ℕ, Option, None, Some, List, [], ◌∷◌, map}
 use Rattle.serde_json.specs.Data.{Data, number, unsigned, string, array, Members, put}
 use Rattle.serde_json.specs.View.{items_of}
 
@@ -15,3 +15,9 @@ texts_data texts = array (items_of (map string texts))
 abbrev pub put_if : List ℕ → Option Data → Members → Members
 put_if name None ms = ms
 put_if name (Some value) ms = put name value ms
+
+-- the members with those of a list among them, each under its name
+abbrev pub put_named : {X : Type 0} → (X → List ℕ) → (X → Data) → Members → List X → Members
+put_named name_of data_of ms [] = ms
+put_named name_of data_of ms (x ∷ xs) =
+    put_named name_of data_of (put (name_of x) (data_of x) ms) xs

@@ -7,12 +7,17 @@ use Rattle.serde_json.specs.Find.{get_member}
 use Rattle.desk_words.specs.declared.fault.Member.{Member}
 use Rattle.desk_words.specs.declared.fault.Member.TheVariants.{Op, Clerk, No, Doc, Key, Kind, Date}
 use Rattle.desk_words.specs.declared.fault.Member.TheVariants.{Head, Lines, On, Sets, Comment}
-use Rattle.desk_words.specs.declared.fault.Member.TheVariants.{Register, Cut}
+use Rattle.desk_words.specs.declared.fault.Member.TheVariants.{Register, Cut, Filter, Group, From}
+use Rattle.desk_words.specs.declared.fault.Member.TheVariants.{To, By, Method, Ledger, Account}
+use Rattle.desk_words.specs.declared.fault.Member.TheVariants.{Extras}
 use Rattle.desk_words.specs.declared.members.Operation.{Operation}
 use Rattle.desk_words.specs.declared.members.Operation.TheVariants.{Write, Mark, Manual, Activity}
 use Rattle.desk_words.specs.declared.members.Operation.TheVariants.{Close, Sweep, Balance, Post}
 use Rattle.desk_words.specs.declared.members.Operation.TheVariants.{PostStanding, Unpost}
-use Rattle.desk_words.specs.declared.members.Operation.TheVariants.{Doc as Doc_op}
+use Rattle.desk_words.specs.declared.members.Operation.TheVariants.{Doc as Doc_op, Turnovers, Both}
+use Rattle.desk_words.specs.declared.members.Operation.TheVariants.{AccountBalance}
+use Rattle.desk_words.specs.declared.members.Operation.TheVariants.{AccountTurnovers, AccountBoth}
+use Rattle.desk_words.specs.declared.members.Operation.TheVariants.{DrCr, Documents}
 
 -- the word of a member
 abbrev pub member_name : Member → List ℕ
@@ -30,6 +35,15 @@ member_name Sets = codes "sets"
 member_name Comment = codes "comment"
 member_name Register = codes "register"
 member_name Cut = codes "cut"
+member_name Filter = codes "filter"
+member_name Group = codes "group"
+member_name From = codes "from"
+member_name To = codes "to"
+member_name By = codes "by"
+member_name Method = codes "method"
+member_name Ledger = codes "ledger"
+member_name Account = codes "account"
+member_name Extras = codes "extras"
 
 -- to post content, which has a type, or a document as it stands
 abbrev pub post_operation : Bool → Operation
@@ -49,7 +63,14 @@ operation_named has_kind name =
     else (if bytes_eq name (codes "doc") then Some Doc_op
     else (if bytes_eq name (codes "post") then Some (post_operation has_kind)
     else (if bytes_eq name (codes "unpost") then Some Unpost
-    else None)))))))))
+    else (if bytes_eq name (codes "turnovers") then Some Turnovers
+    else (if bytes_eq name (codes "both") then Some Both
+    else (if bytes_eq name (codes "account_balance") then Some AccountBalance
+    else (if bytes_eq name (codes "account_turnovers") then Some AccountTurnovers
+    else (if bytes_eq name (codes "account_both") then Some AccountBoth
+    else (if bytes_eq name (codes "dr_cr") then Some DrCr
+    else (if bytes_eq name (codes "documents") then Some Documents
+    else None))))))))))))))))
 
 -- the members that an operation asks for, in order
 abbrev pub required_members : Operation → List Member
@@ -64,6 +85,13 @@ required_members Doc_op = Op ∷ Clerk ∷ Doc ∷ []
 required_members Post = Op ∷ Clerk ∷ No ∷ Kind ∷ Date ∷ Head ∷ Lines ∷ []
 required_members PostStanding = Op ∷ Clerk ∷ No ∷ Doc ∷ []
 required_members Unpost = Op ∷ Clerk ∷ No ∷ Doc ∷ []
+required_members Turnovers = Op ∷ Clerk ∷ Register ∷ []
+required_members Both = Op ∷ Clerk ∷ Register ∷ []
+required_members AccountBalance = Op ∷ Clerk ∷ Ledger ∷ []
+required_members AccountTurnovers = Op ∷ Clerk ∷ Ledger ∷ []
+required_members AccountBoth = Op ∷ Clerk ∷ Ledger ∷ []
+required_members DrCr = Op ∷ Clerk ∷ Ledger ∷ []
+required_members Documents = Op ∷ Clerk ∷ []
 
 -- the members of a document's content, without its type
 abbrev pub content_members : List Member
@@ -78,11 +106,18 @@ other_members Manual = Doc ∷ Key ∷ Comment ∷ []
 other_members Activity = []
 other_members Close = []
 other_members Sweep = []
-other_members Balance = Cut ∷ []
+other_members Balance = Filter ∷ Group ∷ Cut ∷ []
 other_members Doc_op = []
 other_members Post = Doc ∷ Key ∷ Comment ∷ []
 other_members PostStanding = content_members
 other_members Unpost = []
+other_members Turnovers = Filter ∷ Group ∷ From ∷ To ∷ By ∷ []
+other_members Both = Filter ∷ Group ∷ From ∷ To ∷ By ∷ Method ∷ []
+other_members AccountBalance = Account ∷ Extras ∷ Cut ∷ []
+other_members AccountTurnovers = Account ∷ Extras ∷ From ∷ To ∷ By ∷ []
+other_members AccountBoth = Account ∷ Extras ∷ From ∷ To ∷ By ∷ []
+other_members DrCr = Account ∷ From ∷ To ∷ []
+other_members Documents = From ∷ To ∷ []
 
 -- an object has the member, whatever stands there
 abbrev pub has_member : Member → Members → Bool

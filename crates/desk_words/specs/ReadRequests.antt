@@ -5,19 +5,18 @@ use Rattle.serde_json.specs.Data.{Members}
 use Rattle.reg_base.specs.Results.{◌>>=◌, unless, none_or}
 use Rattle.desk_words.specs.declared.fault.Member.TheVariants.{Clerk, No, Doc, Key, Kind, Date}
 use Rattle.desk_words.specs.declared.fault.Member.TheVariants.{Head, Lines, On, Sets, Comment}
-use Rattle.desk_words.specs.declared.fault.Member.TheVariants.{Register, Cut}
 use Rattle.desk_words.specs.declared.fault.WordFault.TheVariants.{BadMember}
+use Rattle.desk_words.specs.declared.read_requests.Heading.{Heading}
 use Rattle.desk_words.specs.declared.request.Write.{Write}
 use Rattle.desk_words.specs.declared.request.StandingDocument.{StandingDocument}
 use Rattle.desk_words.specs.declared.request.Switch.{Switch}
 use Rattle.desk_words.specs.declared.request.Manual.{Manual}
 use Rattle.desk_words.specs.declared.request.Close.{Close}
 use Rattle.desk_words.specs.declared.request.Sweep.{Sweep}
-use Rattle.desk_words.specs.declared.request.Balance.{Balance}
 use Rattle.desk_words.specs.declared.request.DocQuestion.{DocQuestion}
 use Rattle.desk_words.specs.Members.{content_members, first_present}
 use Rattle.desk_words.specs.Shapes.{OrFault, required_at, optional_at, json_name, json_code}
-use Rattle.desk_words.specs.Shapes.{json_number, json_date, json_cut, json_boolean, json_comment}
+use Rattle.desk_words.specs.Shapes.{json_number, json_date, json_boolean, json_comment}
 use Rattle.desk_words.specs.Sets.{json_sets}
 use Rattle.desk_words.specs.Fields.{json_fields, json_lines}
 
@@ -29,23 +28,29 @@ key_beside doc object = do
   _ ← unless (is_none doc || is_none key) (BadMember Key)
   Ok key
 
--- the content of a document
-unfoldable pub write_request : Members → OrFault Write
-write_request object = do
+-- whose request it is, and which document it makes or replaces
+unfoldable pub heading_of : Members → OrFault Heading
+heading_of object = do
   clerk ← required_at json_name Clerk object
   nr ← required_at json_number No object
   doc ← optional_at json_number Doc object
   key ← key_beside doc object
+  Ok (record { clerk = clerk; no = nr; doc = doc; key = key })
+
+-- the content of a document
+unfoldable pub write_request : Members → OrFault Write
+write_request object = do
+  given ← heading_of object
   kind ← required_at json_name Kind object
   date ← required_at json_date Date object
   head ← required_at json_fields Head object
   lines ← required_at json_lines Lines object
   comment ← optional_at json_comment Comment object
   Ok (record {
-    clerk = clerk;
-    no = nr;
-    doc = doc;
-    key = key;
+    clerk = given.clerk;
+    no = given.no;
+    doc = given.doc;
+    key = given.key;
     kind = kind;
     date = date;
     head = head;
@@ -72,27 +77,28 @@ standing_post object = do
 -- a switch of a document
 unfoldable pub switch_request : Members → OrFault Switch
 switch_request object = do
-  clerk ← required_at json_name Clerk object
-  nr ← required_at json_number No object
-  doc ← required_at json_number Doc object
+  standing ← standing_document object
   on ← required_at json_boolean On object
-  Ok (record { clerk = clerk; no = nr; doc = doc; on = on; tx = None })
+  Ok (record {
+    clerk = standing.clerk;
+    no = standing.no;
+    doc = standing.doc;
+    on = on;
+    tx = None;
+  })
 
 -- records given by hand
 unfoldable pub manual_request : Members → OrFault Manual
 manual_request object = do
-  clerk ← required_at json_name Clerk object
-  nr ← required_at json_number No object
-  doc ← optional_at json_number Doc object
-  key ← key_beside doc object
+  given ← heading_of object
   date ← required_at json_date Date object
   sets ← required_at json_sets Sets object
   comment ← optional_at json_comment Comment object
   Ok (record {
-    clerk = clerk;
-    no = nr;
-    doc = doc;
-    key = key;
+    clerk = given.clerk;
+    no = given.no;
+    doc = given.doc;
+    key = given.key;
     date = date;
     sets = sets;
     comment = comment;
@@ -110,25 +116,8 @@ close_request object = do
 -- a document removed
 unfoldable pub sweep_request : Members → OrFault Sweep
 sweep_request object = do
-  clerk ← required_at json_name Clerk object
-  nr ← required_at json_number No object
-  doc ← required_at json_number Doc object
-  Ok (record { clerk = clerk; no = nr; doc = doc })
-
--- a question for a balance
-unfoldable pub balance_request : Members → OrFault Balance
-balance_request object = do
-  clerk ← required_at json_name Clerk object
-  register ← required_at json_name Register object
-  cut ← optional_at json_cut Cut object
-  Ok (record {
-    clerk = clerk;
-    register = register;
-    filter = None;
-    group = None;
-    cut = cut;
-    tx = None;
-  })
+  standing ← standing_document object
+  Ok (record { clerk = standing.clerk; no = standing.no; doc = standing.doc })
 
 -- a question for a document
 unfoldable pub doc_question : Members → OrFault DocQuestion

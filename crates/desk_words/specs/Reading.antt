@@ -22,17 +22,29 @@ use Rattle.desk_words.specs.declared.members.Operation.TheVariants.{Balance as B
 use Rattle.desk_words.specs.declared.members.Operation.TheVariants.{Doc as Doc_op}
 use Rattle.desk_words.specs.declared.members.Operation.TheVariants.{Post as Post_op, PostStanding}
 use Rattle.desk_words.specs.declared.members.Operation.TheVariants.{Unpost as Unpost_op}
+use Rattle.desk_words.specs.declared.members.Operation.TheVariants.{Turnovers as Turnovers_op}
+use Rattle.desk_words.specs.declared.members.Operation.TheVariants.{Both as Both_op}
+use Rattle.desk_words.specs.declared.members.Operation.TheVariants.{AccountBalance as Held_op}
+use Rattle.desk_words.specs.declared.members.Operation.TheVariants.{AccountTurnovers as Moved_op}
+use Rattle.desk_words.specs.declared.members.Operation.TheVariants.{AccountBoth as Whole_op}
+use Rattle.desk_words.specs.declared.members.Operation.TheVariants.{DrCr as DrCr_op}
+use Rattle.desk_words.specs.declared.members.Operation.TheVariants.{Documents as Documents_op}
 use Rattle.desk_words.specs.declared.request.Request.{Request}
 use Rattle.desk_words.specs.declared.request.Request.TheVariants.{Write, Mark, Manual, Activity}
 use Rattle.desk_words.specs.declared.request.Request.TheVariants.{Close, Sweep, Balance, Doc, Post}
-use Rattle.desk_words.specs.declared.request.Request.TheVariants.{Unpost}
+use Rattle.desk_words.specs.declared.request.Request.TheVariants.{Unpost, Turnovers, Both}
+use Rattle.desk_words.specs.declared.request.Request.TheVariants.{AccountBalance, AccountTurnovers}
+use Rattle.desk_words.specs.declared.request.Request.TheVariants.{AccountBoth, DrCr, Documents}
 use Rattle.desk_words.specs.declared.request.Post.TheVariants.{Content, Standing}
 use Rattle.desk_words.specs.Members.{member_name, operation_named, required_members, first_missing}
 use Rattle.desk_words.specs.Members.{first_unknown_member, has_member}
 use Rattle.desk_words.specs.Shapes.{OrFault}
 use Rattle.desk_words.specs.ReadRequests.{write_request, switch_request, manual_request}
-use Rattle.desk_words.specs.ReadRequests.{close_request, sweep_request, balance_request}
-use Rattle.desk_words.specs.ReadRequests.{doc_question, standing_document, standing_post}
+use Rattle.desk_words.specs.ReadRequests.{close_request, sweep_request, doc_question}
+use Rattle.desk_words.specs.ReadRequests.{standing_document, standing_post}
+use Rattle.desk_words.specs.ReadTables.{balance_request, turnovers_request, both_request}
+use Rattle.desk_words.specs.ReadTables.{account_balance_request, account_turnovers_request}
+use Rattle.desk_words.specs.ReadTables.{dr_cr_request, documents_question}
 
 -- the JSON value of a line, where the line is UTF-8 and `serde_json` reads it
 unfoldable pub json_document : List ℕ → Option Data
@@ -68,6 +80,13 @@ members_of Doc_op object = doc_question object >>= λ r. Ok (Doc r)
 members_of Post_op object = write_request object >>= λ r. Ok (Post (Content r))
 members_of PostStanding object = standing_post object >>= λ r. Ok (Post (Standing r))
 members_of Unpost_op object = standing_document object >>= λ r. Ok (Unpost r)
+members_of Turnovers_op object = turnovers_request object >>= λ r. Ok (Turnovers r)
+members_of Both_op object = both_request object >>= λ r. Ok (Both r)
+members_of Held_op object = account_balance_request object >>= λ r. Ok (AccountBalance r)
+members_of Moved_op object = account_turnovers_request object >>= λ r. Ok (AccountTurnovers r)
+members_of Whole_op object = account_turnovers_request object >>= λ r. Ok (AccountBoth r)
+members_of DrCr_op object = dr_cr_request object >>= λ r. Ok (DrCr r)
+members_of Documents_op object = documents_question object >>= λ r. Ok (Documents r)
 
 -- The request that an object is: its operation is asked first, then what it lacks, then what it
 -- has too much, then each member.

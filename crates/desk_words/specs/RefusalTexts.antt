@@ -13,15 +13,18 @@ use Rattle.desk_words.specs.declared.reply.Refusal.TheVariants.{BadLine, Unknown
 use Rattle.desk_words.specs.declared.reply.Refusal.TheVariants.{Stale, NumberReused, UnknownDoc}
 use Rattle.desk_words.specs.declared.reply.Refusal.TheVariants.{WrongState, BadField, KeyTaken}
 use Rattle.desk_words.specs.declared.reply.Refusal.TheVariants.{Closed, Limit as LimitPassed, Rule}
-use Rattle.desk_words.specs.declared.reply.Refusal.TheVariants.{Control}
+use Rattle.desk_words.specs.declared.reply.Refusal.TheVariants.{Control, Table}
 use Rattle.reg_base.specs.declared.fault.PostFault.{PostFault}
 use Rattle.reg_base.specs.declared.fault.PostFault.TheVariants.{Broken, Shortage, Overflow, Entry}
 use Rattle.reg_base.specs.declared.fault.PostFault.TheVariants.{TooManyRecords, Negative}
+use Rattle.reg_base.specs.declared.fault.TableFault.{TableFault}
+use Rattle.reg_base.specs.declared.fault.TableFault.TheVariants.{BadRange, TooManyRows}
+use Rattle.reg_base.specs.declared.fault.TableFault.TheVariants.{UnknownField}
 use Rattle.desk_words.specs.Members.{member_name}
 use Rattle.desk_words.specs.JsonValues.{whole, texts_data}
 use Rattle.desk_words.specs.ReplyWords.{state_name, field_name, limit_name, word_fault_number}
 use Rattle.desk_words.specs.ReplyWords.{post_fault_number, entry_fault_number, refusal_number}
-use Rattle.desk_words.specs.ReplyWords.{refusal_name, value_text}
+use Rattle.desk_words.specs.ReplyWords.{table_fault_number, refusal_name, value_text}
 
 -- what the fault of a line tells besides its number
 abbrev pub word_fault_detail : WordFault → Members
@@ -66,6 +69,19 @@ unfoldable pub post_fault_members : Option ℕ → PostFault → Members
 post_fault_members scale fault =
     put (codes "fault") (whole (post_fault_number fault)) (post_fault_detail scale fault)
 
+-- what a fault of a table tells besides its number
+abbrev pub table_fault_detail : TableFault → Members
+table_fault_detail (BadRange first last) =
+    member (codes "from") (string (date_text first))
+    (member (codes "to") (string (date_text last)) no_members)
+table_fault_detail (TooManyRows limit) = member (codes "limit") (whole limit) no_members
+table_fault_detail (UnknownField name) = member (codes "field") (string name) no_members
+
+-- a fault of a table: its number, and what it tells besides
+unfoldable pub table_fault_members : TableFault → Members
+table_fault_members fault =
+    put (codes "fault") (whole (table_fault_number fault)) (table_fault_detail fault)
+
 -- what a refusal tells besides its number and its name
 unfoldable pub refusal_detail : Refusal → Members
 refusal_detail (BadLine fault) = word_fault_members fault
@@ -86,6 +102,7 @@ refusal_detail (Control register values balance scale) =
     member (codes "balance") (string (sum_text balance scale))
     (member (codes "register") (string register)
     (member (codes "values") (texts_data (map value_text values)) no_members))
+refusal_detail (Table fault) = table_fault_members fault
 
 -- why a request is refused: its number, its name, and what it tells besides
 unfoldable pub refusal_data : Refusal → Data

@@ -1,17 +1,16 @@
 -- The line that a reply is printed as.
-use Rattle.std.specs.Prelude.{◌≡◌, ℕ, ℤ, Bool, Option, None, Some, IsSome, List, [], ◌∷◌, length}
-use Rattle.std.specs.Prelude.{All, map, codes, ⊤}
-use Rattle.serde_json.specs.Data.{Data, null, boolean, string, array, object, no_members, member}
-use Rattle.serde_json.specs.View.{items_of}
+use Rattle.std.specs.Prelude.{◌≡◌, ℕ, Bool, Option, IsSome, List, length, All, codes, ⊤}
+use Rattle.serde_json.specs.Data.{Data, boolean, string, object, no_members, member}
 use Rattle.serde_json.specs.Written.{compact_text}
 use Rattle.reg_base.specs.Dates.{date_text}
-use Rattle.reg_base.specs.Numbers.{sum_text}
 use Rattle.reg_base.specs.declared.records.DocState.{DocState}
-use Rattle.reg_base.specs.declared.records.SumRow.{SumRow}
 use Rattle.desk_words.specs.declared.reply.Reply.{Reply}
 use Rattle.desk_words.specs.declared.reply.Reply.TheVariants.{Done, Refused}
 use Rattle.desk_words.specs.declared.reply.Answer.{Answer}
 use Rattle.desk_words.specs.declared.reply.Answer.TheVariants.{Acknowledged, Balance, Shown}
+use Rattle.desk_words.specs.declared.reply.Answer.TheVariants.{Turnovers, Both, AccountBalance}
+use Rattle.desk_words.specs.declared.reply.Answer.TheVariants.{AccountTurnovers, AccountBoth, DrCr}
+use Rattle.desk_words.specs.declared.reply.Answer.TheVariants.{Documents}
 use Rattle.desk_words.specs.declared.reply.Acknowledgement.{Acknowledgement}
 use Rattle.desk_words.specs.declared.reply.Acknowledgement.TheVariants.{Document, Swept}
 use Rattle.desk_words.specs.declared.reply.Acknowledgement.TheVariants.{Closed as ClosedBooks}
@@ -21,14 +20,21 @@ use Rattle.desk_words.specs.declared.reply.Refusal.TheVariants.{BadLine, Unknown
 use Rattle.desk_words.specs.declared.reply.Refusal.TheVariants.{Stale, NumberReused, UnknownDoc}
 use Rattle.desk_words.specs.declared.reply.Refusal.TheVariants.{WrongState, BadField, KeyTaken}
 use Rattle.desk_words.specs.declared.reply.Refusal.TheVariants.{Closed, Limit as LimitPassed, Rule}
-use Rattle.desk_words.specs.declared.reply.Refusal.TheVariants.{Control}
+use Rattle.desk_words.specs.declared.reply.Refusal.TheVariants.{Control, Table}
 use Rattle.reg_base.specs.declared.fault.PostFault.{PostFault}
 use Rattle.reg_base.specs.declared.fault.PostFault.TheVariants.{Broken, Shortage, Overflow, Entry}
 use Rattle.reg_base.specs.declared.fault.PostFault.TheVariants.{TooManyRecords, Negative}
-use Rattle.desk_words.specs.JsonValues.{whole, texts_data}
+use Rattle.desk_words.specs.declared.row_values.RegisterTable.TheVariants.{Both as BothTable}
+use Rattle.desk_words.specs.declared.row_values.AccountTable.TheVariants.{Balance as HeldTable}
+use Rattle.desk_words.specs.declared.row_values.AccountTable.TheVariants.{Turnovers as MovedTable}
+use Rattle.desk_words.specs.declared.row_values.AccountTable.TheVariants.{Both as WholeTable}
+use Rattle.desk_words.specs.JsonValues.{whole}
 use Rattle.desk_words.specs.FieldTexts.{fields_data, lines_data}
 use Rattle.desk_words.specs.RequestTexts.{sets_data}
-use Rattle.desk_words.specs.ReplyWords.{value_text, state_name}
+use Rattle.desk_words.specs.ReplyWords.{state_name}
+use Rattle.desk_words.specs.RowTexts.{row_data, register_row_data, account_row_data, pair_row_data}
+use Rattle.desk_words.specs.RowTexts.{document_row_data, table_data, turnovers_table, HasNumbers}
+use Rattle.desk_words.specs.RowTexts.{key_data, kind_name}
 use Rattle.desk_words.specs.RefusalTexts.{refusal_data}
 
 -- a fault that tells a missing quantity has the scale of that quantity
@@ -55,34 +61,26 @@ RefusalHasScales (KeyTaken doc) = ⊤
 RefusalHasScales (Closed date) = ⊤
 RefusalHasScales (LimitPassed which limit) = ⊤
 RefusalHasScales (Control register values balance scale) = ⊤
+RefusalHasScales (Table fault) = ⊤
 
--- each row has a scale for each of its sums
+-- each row has a scale for each of its numbers
 abbrev pub AnswerHasScales : Answer → Type 0
 AnswerHasScales (Acknowledged acknowledgement) = ⊤
 AnswerHasScales (Balance rows scales) = All (λ row. length row.sums ≡ length scales) rows
 AnswerHasScales (Shown shown) = ⊤
+AnswerHasScales (Turnovers balances rows scales) =
+    All (HasNumbers (turnovers_table balances) (length scales)) rows
+AnswerHasScales (Both rows scales) = All (HasNumbers BothTable (length scales)) rows
+AnswerHasScales (AccountBalance rows scale) = ⊤
+AnswerHasScales (AccountTurnovers rows scale) = ⊤
+AnswerHasScales (AccountBoth rows scale) = ⊤
+AnswerHasScales (DrCr rows scale) = ⊤
+AnswerHasScales (Documents rows) = ⊤
 
 -- each number that the reply prints has its scale
 abbrev pub HasScales : Reply → Type 0
 HasScales (Done answer) = AnswerHasScales answer
 HasScales (Refused refusal) = RefusalHasScales refusal
-
--- the sums as texts, each with the decimals of the resource in its place; `HasScales` says that
--- there are as many scales
-abbrev pub sum_texts : List ℕ → List ℤ → List (List ℕ)
-sum_texts [] sums = []
-sum_texts (scale ∷ scales) [] = []
-sum_texts (scale ∷ scales) (sum ∷ sums) = sum_text sum scale ∷ sum_texts scales sums
-
--- a row: its group and its sums
-unfoldable pub row_data : List ℕ → SumRow → Data
-row_data scales row =
-    object (member (codes "group") (texts_data (map value_text row.group))
-    (member (codes "sums") (texts_data (sum_texts scales row.sums)) no_members))
-
--- the rows of a balance
-unfoldable pub rows_data : List ℕ → List SumRow → Data
-rows_data scales rows = array (items_of (map (row_data scales) rows))
 
 -- a document that was written, posted or marked
 unfoldable pub document_data : Bool → ℕ → DocState → Data
@@ -97,16 +95,6 @@ acknowledgement_data (Document active doc state) = document_data active doc stat
 acknowledgement_data (ClosedBooks date) =
     object (member (codes "closed") (string (date_text date)) no_members)
 acknowledgement_data (Swept doc) = object (member (codes "doc") (whole doc) no_members)
-
--- a document's key, or null where it has none
-abbrev pub key_data : Option (List ℕ) → Data
-key_data None = null
-key_data (Some key) = string key
-
--- a document's type; a manual document has none
-abbrev pub kind_name : Option (List ℕ) → List ℕ
-kind_name None = codes "manual"
-kind_name (Some name) = name
 
 -- a document: what it says, and the records that it has made
 unfoldable pub shown_data : ShownDocument → Data
@@ -125,9 +113,16 @@ shown_data shown =
 -- what an accepted request gives
 unfoldable pub answer_data : Answer → Data
 answer_data (Acknowledged acknowledgement) = acknowledgement_data acknowledgement
-answer_data (Balance rows scales) =
-    object (member (codes "rows") (rows_data scales rows) no_members)
+answer_data (Balance rows scales) = table_data (row_data scales) rows
 answer_data (Shown shown) = shown_data shown
+answer_data (Turnovers balances rows scales) =
+    table_data (register_row_data (turnovers_table balances) scales) rows
+answer_data (Both rows scales) = table_data (register_row_data BothTable scales) rows
+answer_data (AccountBalance rows scale) = table_data (account_row_data HeldTable scale) rows
+answer_data (AccountTurnovers rows scale) = table_data (account_row_data MovedTable scale) rows
+answer_data (AccountBoth rows scale) = table_data (account_row_data WholeTable scale) rows
+answer_data (DrCr rows scale) = table_data (pair_row_data scale) rows
+answer_data (Documents rows) = table_data document_row_data rows
 
 -- a reply as JSON
 unfoldable pub reply_data : Reply → Data

@@ -14,15 +14,18 @@ use Rattle.desk_words.specs.declared.reply.Refusal.TheVariants.{BadLine, Unknown
 use Rattle.desk_words.specs.declared.reply.Refusal.TheVariants.{Stale, NumberReused, UnknownDoc}
 use Rattle.desk_words.specs.declared.reply.Refusal.TheVariants.{WrongState, BadField, KeyTaken}
 use Rattle.desk_words.specs.declared.reply.Refusal.TheVariants.{Closed, Limit as LimitPassed, Rule}
-use Rattle.desk_words.specs.declared.reply.Refusal.TheVariants.{Control}
+use Rattle.desk_words.specs.declared.reply.Refusal.TheVariants.{Control, Table}
 use Rattle.desk_words.specs.declared.reply.Field.{Field}
 use Rattle.desk_words.specs.declared.reply.Field.TheVariants.{Space, Register, Ledger, Values, Sums}
-use Rattle.desk_words.specs.declared.reply.Field.TheVariants.{Kind, Amount, Named}
+use Rattle.desk_words.specs.declared.reply.Field.TheVariants.{Kind, Amount, Account, Named}
 use Rattle.desk_words.specs.declared.reply.Limit.{Limit}
 use Rattle.desk_words.specs.declared.reply.Limit.TheVariants.{Documents, Numbers, Records, Lines}
 use Rattle.reg_base.specs.declared.fault.PostFault.{PostFault}
 use Rattle.reg_base.specs.declared.fault.PostFault.TheVariants.{Broken, Shortage, Overflow, Entry}
 use Rattle.reg_base.specs.declared.fault.PostFault.TheVariants.{TooManyRecords, Negative}
+use Rattle.reg_base.specs.declared.fault.TableFault.{TableFault}
+use Rattle.reg_base.specs.declared.fault.TableFault.TheVariants.{BadRange, TooManyRows}
+use Rattle.reg_base.specs.declared.fault.TableFault.TheVariants.{UnknownField}
 use Rattle.reg_base.specs.declared.fault.EntryFault.{EntryFault}
 use Rattle.reg_base.specs.declared.fault.EntryFault.TheVariants.{UnknownAccount, GroupAccount}
 use Rattle.reg_base.specs.declared.fault.EntryFault.TheVariants.{ExtraCount, Sides}
@@ -47,6 +50,7 @@ field_name Values = codes "values"
 field_name Sums = codes "sums"
 field_name Kind = codes "kind"
 field_name Amount = codes "amount"
+field_name Account = codes "account"
 field_name (Named name) = name
 
 -- the word of what is limited
@@ -83,6 +87,12 @@ entry_fault_number GroupAccount = 2
 entry_fault_number ExtraCount = 3
 entry_fault_number Sides = 4
 
+-- the number of a fault of a table
+abbrev pub table_fault_number : TableFault → ℕ
+table_fault_number (BadRange first last) = 1
+table_fault_number (TooManyRows limit) = 2
+table_fault_number (UnknownField name) = 3
+
 -- the number of a refusal
 abbrev pub refusal_number : Refusal → ℕ
 refusal_number (BadLine fault) = 1
@@ -98,6 +108,7 @@ refusal_number (Closed date) = 13
 refusal_number (LimitPassed which limit) = 14
 refusal_number (Rule fault scale) = 15
 refusal_number (Control register values balance scale) = 18
+refusal_number (Table fault) = 19
 
 -- the word of a refusal
 abbrev pub refusal_name : Refusal → List ℕ
@@ -114,3 +125,4 @@ refusal_name (Closed date) = codes "Closed"
 refusal_name (LimitPassed which limit) = codes "Limit"
 refusal_name (Rule fault scale) = codes "Rule"
 refusal_name (Control register values balance scale) = codes "Control"
+refusal_name (Table fault) = codes "Table"

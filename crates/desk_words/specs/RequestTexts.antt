@@ -1,11 +1,10 @@
 -- The canonical text of a request.
-use Rattle.std.specs.Prelude.{ℕ, List, [], ◌∷◌, Option, Some, None, option_map, map, codes}
+use Rattle.std.specs.Prelude.{ℕ, List, ◌∷◌, Option, Some, None, option_map, map, codes}
 use Rattle.serde_json.specs.Data.{Data, null, boolean, string, array, object, Members, no_members}
-use Rattle.serde_json.specs.Data.{member, put}
+use Rattle.serde_json.specs.Data.{member}
 use Rattle.serde_json.specs.View.{items_of}
 use Rattle.serde_json.specs.Written.{compact_text}
 use Rattle.reg_base.specs.Dates.{date_text}
-use Rattle.reg_base.specs.Cuts.{cut_text}
 use Rattle.reg_base.specs.declared.records.Mark.{Mark}
 use Rattle.reg_base.specs.declared.records.Mark.TheVariants.{Receipt, Expense, Turn}
 use Rattle.reg_base.specs.declared.records.Side.{Side}
@@ -20,6 +19,13 @@ use Rattle.desk_words.specs.declared.request.Request.TheVariants.{Balance as Bal
 use Rattle.desk_words.specs.declared.request.Request.TheVariants.{Doc as Doc_request}
 use Rattle.desk_words.specs.declared.request.Request.TheVariants.{Post as Post_request}
 use Rattle.desk_words.specs.declared.request.Request.TheVariants.{Unpost as Unpost_request}
+use Rattle.desk_words.specs.declared.request.Request.TheVariants.{Turnovers as Turnovers_request}
+use Rattle.desk_words.specs.declared.request.Request.TheVariants.{Both as Both_request}
+use Rattle.desk_words.specs.declared.request.Request.TheVariants.{AccountBalance as Held_request}
+use Rattle.desk_words.specs.declared.request.Request.TheVariants.{AccountTurnovers as Moved_request}
+use Rattle.desk_words.specs.declared.request.Request.TheVariants.{AccountBoth as Whole_request}
+use Rattle.desk_words.specs.declared.request.Request.TheVariants.{DrCr as DrCr_request}
+use Rattle.desk_words.specs.declared.request.Request.TheVariants.{Documents as Documents_request}
 use Rattle.desk_words.specs.declared.request.Post.{Post}
 use Rattle.desk_words.specs.declared.request.Post.TheVariants.{Content, Standing}
 use Rattle.desk_words.specs.declared.request.Write.{Write}
@@ -28,16 +34,17 @@ use Rattle.desk_words.specs.declared.request.Switch.{Switch}
 use Rattle.desk_words.specs.declared.request.Manual.{Manual}
 use Rattle.desk_words.specs.declared.request.Close.{Close}
 use Rattle.desk_words.specs.declared.request.Sweep.{Sweep}
-use Rattle.desk_words.specs.declared.request.Balance.{Balance}
 use Rattle.desk_words.specs.declared.request.DocQuestion.{DocQuestion}
 use Rattle.desk_words.specs.declared.request.SetText.{SetText}
-use Rattle.desk_words.specs.declared.request.FilterText.{FilterText}
 use Rattle.desk_words.specs.declared.request.RecordText.{RecordText}
 use Rattle.desk_words.specs.declared.request.RecordText.TheVariants.{Register, Ledger}
 use Rattle.desk_words.specs.declared.request.RegisterText.{RegisterText}
 use Rattle.desk_words.specs.declared.request.LedgerText.{LedgerText}
 use Rattle.desk_words.specs.JsonValues.{whole, texts_data, put_if}
 use Rattle.desk_words.specs.FieldTexts.{fields_data, lines_data}
+use Rattle.desk_words.specs.TableTexts.{balance_members, turnovers_members, both_members}
+use Rattle.desk_words.specs.TableTexts.{account_balance_members, account_turnovers_members}
+use Rattle.desk_words.specs.TableTexts.{dr_cr_members, documents_members}
 
 -- the word of a mark
 abbrev pub mark_name : Mark → List ℕ
@@ -78,16 +85,6 @@ set_data set =
 -- a list of sets
 unfoldable pub sets_data : List SetText → Data
 sets_data sets = array (items_of (map set_data sets))
-
--- the members with the values of each name among them
-abbrev pub put_filters : Members → List FilterText → Members
-put_filters ms [] = ms
-put_filters ms (filter ∷ filters) = put_filters (put filter.name (texts_data filter.values) ms)
-    filters
-
--- the values that dimensions may have, by their names
-abbrev pub filters_data : List FilterText → Data
-filters_data filters = object (put_filters no_members filters)
 
 -- members, with those among them that a document may have
 abbrev pub put_optional : Option ℕ → Option (List ℕ) → Option (List ℕ) → Option ℕ → Members
@@ -161,21 +158,6 @@ sweep_members s =
     (member (codes "no") (whole s.no)
     (member (codes "op") (string (codes "sweep")) no_members)))
 
--- the members that `balance` always has
-unfoldable pub balance_frame : Balance → Members
-balance_frame b =
-    member (codes "clerk") (string b.clerk)
-    (member (codes "op") (string (codes "balance"))
-    (member (codes "register") (string b.register) no_members))
-
--- the members of `balance`
-unfoldable pub balance_members : Balance → Members
-balance_members b =
-    put_if (codes "tx") (option_map whole b.tx)
-    (put_if (codes "cut") (option_map (λ cut. string (cut_text cut)) b.cut)
-    (put_if (codes "group") (option_map texts_data b.group)
-    (put_if (codes "filter") (option_map filters_data b.filter) (balance_frame b))))
-
 -- the members of `doc`
 unfoldable pub doc_members : DocQuestion → Members
 doc_members d =
@@ -201,6 +183,15 @@ request_data (Balance_request b) = object (balance_members b)
 request_data (Doc_request d) = object (doc_members d)
 request_data (Post_request p) = object (post_members p)
 request_data (Unpost_request s) = object (standing_members (codes "unpost") s)
+request_data (Turnovers_request t) = object (turnovers_members (codes "turnovers") t)
+request_data (Both_request b) = object (both_members b)
+request_data (Held_request a) = object (account_balance_members a)
+request_data (Moved_request a) =
+    object (account_turnovers_members (codes "account_turnovers") a)
+request_data (Whole_request a) =
+    object (account_turnovers_members (codes "account_both") a)
+request_data (DrCr_request d) = object (dr_cr_members d)
+request_data (Documents_request d) = object (documents_members d)
 
 -- The canonical text of a request: compact JSON, members in byte order, dates in the long form,
 -- other texts as they were given, absent members absent.

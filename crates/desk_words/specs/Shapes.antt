@@ -2,13 +2,13 @@
 use Rattle.std.specs.Prelude.{ℕ, Bool, ◌&&◌, List, [], ◌∷◌, Option, Some, None, option_and_then}
 use Rattle.std.specs.Prelude.{Result, Ok, nat_le}
 use Rattle.std.specs.Result.{result_ok}
-use Rattle.serde_json.specs.Data.{Data, Items, no_items, item, Members}
+use Rattle.serde_json.specs.Data.{Data, Items, no_items, item, Members, no_members, member}
 use Rattle.serde_json.specs.Find.{get_member, as_object, as_array, as_str, as_number, as_u64}
 use Rattle.serde_json.specs.Find.{as_bool}
 use Rattle.reg_base.specs.Results.{◌>>=◌, some_or, unless}
 use Rattle.reg_base.specs.Codes.{is_name, is_code}
 use Rattle.reg_base.specs.Comments.{is_comment}
-use Rattle.reg_base.specs.Dates.{parse_date}
+use Rattle.reg_base.specs.Dates.{parse_date, parse_date_end}
 use Rattle.reg_base.specs.Cuts.{parse_cut}
 use Rattle.reg_base.specs.declared.cut.Cut.{Cut}
 use Rattle.desk_words.specs.declared.fault.Member.{Member}
@@ -85,6 +85,12 @@ json_date m d = do
   text ← json_text m d
   some_or (result_ok (parse_date text)) (BadMember m)
 
+-- a text that is a date; a day alone is its last second
+unfoldable pub json_date_end : Member → Data → OrFault ℕ
+json_date_end m d = do
+  text ← json_text m d
+  some_or (result_ok (parse_date_end text)) (BadMember m)
+
 -- a text that is a cut
 unfoldable pub json_cut : Member → Data → OrFault Cut
 json_cut m d = do
@@ -114,3 +120,13 @@ json_texts m d = json_list (json_text m) m d
 -- a list of codes
 unfoldable pub json_codes : Member → Data → OrFault (List (List ℕ))
 json_codes m d = json_list (json_code m) m d
+
+-- a list of names
+unfoldable pub json_names : Member → Data → OrFault (List (List ℕ))
+json_names m d = json_list (json_name m) m d
+
+-- each member of an object, by its name and its shape
+abbrev pub each_named : {X : Type 0} → (List ℕ → Data → OrFault X) → Members → OrFault (List X)
+each_named shape no_members = Ok []
+each_named shape (member name d ds) =
+    shape name d >>= λ x. each_named shape ds >>= λ xs. Ok (x ∷ xs)

@@ -1,13 +1,10 @@
 -- Requests as they are read: names are names, numbers in range, texts UTF-8.
-use Rattle.std.specs.Prelude.{◌≡◌, ℕ, ◌≤◌, ◌<◌, true, None, IfSome, List, map}
+use Rattle.std.specs.Prelude.{◌≡◌, ℕ, None, IfSome, List, map}
 use Rattle.std.specs.Cmp.Lexicographic.{slice_cmp}
 use Rattle.std.specs.List.{AllByRecursion}
 use Rattle.std.specs.List.Sorted.{IsStrictlySortedBy}
 use Rattle.std.specs.Ordering.{nat_cmp}
 use Rattle.std.specs.Str.{IsUtf8}
-use Rattle.reg_base.specs.Codes.{is_code, is_name}
-use Rattle.reg_base.specs.Comments.{is_comment}
-use Rattle.reg_base.specs.Cuts.{IsCut}
 use Rattle.reg_base.specs.declared.records.Side.{Side}
 use Rattle.desk_words.specs.declared.request.Request.{Request}
 use Rattle.desk_words.specs.declared.request.Request.TheVariants.{Write as Write_request}
@@ -20,6 +17,13 @@ use Rattle.desk_words.specs.declared.request.Request.TheVariants.{Balance as Bal
 use Rattle.desk_words.specs.declared.request.Request.TheVariants.{Doc as Doc_request}
 use Rattle.desk_words.specs.declared.request.Request.TheVariants.{Post as Post_request}
 use Rattle.desk_words.specs.declared.request.Request.TheVariants.{Unpost as Unpost_request}
+use Rattle.desk_words.specs.declared.request.Request.TheVariants.{Turnovers as Turnovers_request}
+use Rattle.desk_words.specs.declared.request.Request.TheVariants.{Both as Both_request}
+use Rattle.desk_words.specs.declared.request.Request.TheVariants.{AccountBalance as Held_request}
+use Rattle.desk_words.specs.declared.request.Request.TheVariants.{AccountTurnovers as Moved_request}
+use Rattle.desk_words.specs.declared.request.Request.TheVariants.{AccountBoth as Whole_request}
+use Rattle.desk_words.specs.declared.request.Request.TheVariants.{DrCr as DrCr_request}
+use Rattle.desk_words.specs.declared.request.Request.TheVariants.{Documents as Documents_request}
 use Rattle.desk_words.specs.declared.request.Post.{Post}
 use Rattle.desk_words.specs.declared.request.Post.TheVariants.{Content, Standing}
 use Rattle.desk_words.specs.declared.request.Write.{Write}
@@ -28,7 +32,6 @@ use Rattle.desk_words.specs.declared.request.Switch.{Switch}
 use Rattle.desk_words.specs.declared.request.Manual.{Manual}
 use Rattle.desk_words.specs.declared.request.Close.{Close}
 use Rattle.desk_words.specs.declared.request.Sweep.{Sweep}
-use Rattle.desk_words.specs.declared.request.Balance.{Balance}
 use Rattle.desk_words.specs.declared.request.DocQuestion.{DocQuestion}
 use Rattle.desk_words.specs.declared.request.FieldText.{FieldText}
 use Rattle.desk_words.specs.declared.request.SetText.{SetText}
@@ -36,24 +39,10 @@ use Rattle.desk_words.specs.declared.request.RecordText.{RecordText}
 use Rattle.desk_words.specs.declared.request.RecordText.TheVariants.{Register, Ledger}
 use Rattle.desk_words.specs.declared.request.RegisterText.{RegisterText}
 use Rattle.desk_words.specs.declared.request.LedgerText.{LedgerText}
-
-abbrev pub IsName : List ℕ → Type 0
-IsName text = is_name text ≡ true
-
-abbrev pub IsCode : List ℕ → Type 0
-IsCode text = is_code text ≡ true
-
--- the number of a request or of a document
-abbrev pub IsNumber : ℕ → Type 0
-IsNumber n = (1 ≤ n) × (n ≤ 4_294_967_295)
-
--- a date from 2000 to 2099
-abbrev pub IsDate : ℕ → Type 0
-IsDate date = date < 3_155_760_000
-
--- a comment that is UTF-8
-abbrev pub IsComment : List ℕ → Type 0
-IsComment text = (is_comment text ≡ true) × IsUtf8 text
+use Rattle.desk_words.specs.WellFormedParts.{IsName, IsCode, IsNumber, IsDate, IsComment}
+use Rattle.desk_words.specs.WellFormedTables.{IsBalanceRequest, IsTurnovers, IsBoth}
+use Rattle.desk_words.specs.WellFormedTables.{IsAccountBalance, IsAccountTurnovers, IsDrCr}
+use Rattle.desk_words.specs.WellFormedTables.{IsDocumentsQuestion}
 
 -- a text of a name
 abbrev pub IsFieldText : FieldText → Type 0
@@ -144,15 +133,6 @@ pub record IsSweepRequest (s : Sweep) : Type 0 where
   pub number : IsNumber s.no
   pub doc : IsNumber s.doc
 
--- the members of `balance` that are built are well formed, and the others absent
-pub record IsBalanceRequest (b : Balance) : Type 0 where
-  pub clerk : IsName b.clerk
-  pub register : IsName b.register
-  pub cut : IfSome b.cut IsCut
-  pub no_filter : b.filter ≡ None
-  pub no_group : b.group ≡ None
-  pub no_tx : b.tx ≡ None
-
 -- the members of `doc` that are built are well formed, and the others absent
 pub record IsDocQuestion (d : DocQuestion) : Type 0 where
   pub clerk : IsName d.clerk
@@ -171,3 +151,10 @@ IsRequest (Balance_request b) = IsBalanceRequest b
 IsRequest (Doc_request d) = IsDocQuestion d
 IsRequest (Post_request p) = IsPost p
 IsRequest (Unpost_request s) = IsStandingDocument s
+IsRequest (Turnovers_request t) = IsTurnovers t
+IsRequest (Both_request b) = IsBoth b
+IsRequest (Held_request a) = IsAccountBalance a
+IsRequest (Moved_request a) = IsAccountTurnovers a
+IsRequest (Whole_request a) = IsAccountTurnovers a
+IsRequest (DrCr_request d) = IsDrCr d
+IsRequest (Documents_request d) = IsDocumentsQuestion d

@@ -23,6 +23,15 @@ pub enum Member {
     Comment,
     Register,
     Cut,
+    Filter,
+    Group,
+    From,
+    To,
+    By,
+    Method,
+    Ledger,
+    Account,
+    Extras,
 }
 
 impl Member {
@@ -45,6 +54,15 @@ impl Member {
             Member::Comment => "comment",
             Member::Register => "register",
             Member::Cut => "cut",
+            Member::Filter => "filter",
+            Member::Group => "group",
+            Member::From => "from",
+            Member::To => "to",
+            Member::By => "by",
+            Member::Method => "method",
+            Member::Ledger => "ledger",
+            Member::Account => "account",
+            Member::Extras => "extras",
         }
     }
 }

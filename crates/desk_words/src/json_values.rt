@@ -1,6 +1,6 @@
 //! What is printed as JSON, alone, in a list, or as a member; requests and replies both use it.
 ghost use Rattle.std.specs.Prelude.{◌≡◌, ◌++◌, false, map, option_map, IfOk, OnOk, OnErr};
-ghost use Rattle.serde_json.specs.Data.{Data, boolean, string, array};
+ghost use Rattle.serde_json.specs.Data.{Data, boolean, string, array, object, member, no_members};
 ghost use Rattle.serde_json.specs.Data.{put as member_put};
 ghost use Rattle.serde_json.specs.View.{view, items_of, members_view};
 ghost use Rattle.reg_base.specs.Cuts.{cut_text};
@@ -98,6 +98,15 @@ pub(crate) fn push_items<T: ToJson>(
         values.push(item.to_json(alloc)?)?;
     }
     Ok(())
+}
+
+// An object of one member.
+pub(crate) fn one_member(alloc: Global, name: &str, value: Json) -> Result<Json, Memory>
+    ensures { IfOk result (λ v. view v ≡ object (member name.now (view value) no_members)) }
+{
+    let mut members = Object::new(alloc);
+    put(&mut members, alloc, name, value)?;
+    Ok(Json::Object(members))
 }
 
 pub(crate) fn text(alloc: Global, value: &str) -> Result<Json, Memory>

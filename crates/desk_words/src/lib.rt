@@ -25,13 +25,19 @@ mod parsed;
 mod print;
 mod read;
 mod read_requests;
+mod read_tables;
 mod refusal_values;
 mod reply;
 mod reply_values;
 mod request;
 mod request_values;
+mod row_parts;
+mod row_values;
 mod sets;
 mod shapes;
+mod table_shapes;
+mod table_values;
+mod tables;
 
 pub use fault::{Member, WordFault};
 pub use laws::{members_ascend, requests_read_back};
@@ -39,4 +45,8 @@ pub use reply::{Acknowledgement, Answer, Field, Limit, Refusal, Reply, ShownDocu
 pub use request::{
     Balance, Close, DocQuestion, FieldText, FilterText, LedgerText, Manual, Post, RecordText,
     RegisterText, Request, SetText, StandingDocument, Sweep, Switch, Write,
+};
+pub use tables::{
+    AccountBalance, AccountTurnovers, AskedAccounts, AskedDates, AskedRegister, Both,
+    DocumentsQuestion, DrCr, Turnovers,
 };

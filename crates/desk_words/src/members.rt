@@ -25,6 +25,13 @@ pub(crate) enum Operation {
     // To post a document as it stands.
     PostStanding,
     Unpost,
+    Turnovers,
+    Both,
+    AccountBalance,
+    AccountTurnovers,
+    AccountBoth,
+    DrCr,
+    Documents,
 }
 
 impl Operation {
@@ -43,6 +50,13 @@ impl Operation {
             "doc" => Some(Operation::Doc),
             "post" => Some(post_operation(has_kind)),
             "unpost" => Some(Operation::Unpost),
+            "turnovers" => Some(Operation::Turnovers),
+            "both" => Some(Operation::Both),
+            "account_balance" => Some(Operation::AccountBalance),
+            "account_turnovers" => Some(Operation::AccountTurnovers),
+            "account_both" => Some(Operation::AccountBoth),
+            "dr_cr" => Some(Operation::DrCr),
+            "documents" => Some(Operation::Documents),
             _ => None,
         }
     }
@@ -79,8 +93,15 @@ impl Operation {
             Operation::Sweep | Operation::PostStanding | Operation::Unpost => {
                 &[Member::Op, Member::Clerk, Member::No, Member::Doc]
             }
-            Operation::Balance => &[Member::Op, Member::Clerk, Member::Register],
+            Operation::Balance | Operation::Turnovers | Operation::Both => {
+                &[Member::Op, Member::Clerk, Member::Register]
+            }
             Operation::Doc => &[Member::Op, Member::Clerk, Member::Doc],
+            Operation::AccountBalance
+            | Operation::AccountTurnovers
+            | Operation::AccountBoth
+            | Operation::DrCr => &[Member::Op, Member::Clerk, Member::Ledger],
+            Operation::Documents => &[Member::Op, Member::Clerk],
         }
     }
 
@@ -92,8 +113,33 @@ impl Operation {
             Operation::Write | Operation::Post | Operation::Manual => {
                 &[Member::Doc, Member::Key, Member::Comment]
             }
-            Operation::Balance => &[Member::Cut],
             Operation::PostStanding => content_members(),
+            Operation::Balance => &[Member::Filter, Member::Group, Member::Cut],
+            Operation::Turnovers => &[
+                Member::Filter,
+                Member::Group,
+                Member::From,
+                Member::To,
+                Member::By,
+            ],
+            Operation::Both => &[
+                Member::Filter,
+                Member::Group,
+                Member::From,
+                Member::To,
+                Member::By,
+                Member::Method,
+            ],
+            Operation::AccountBalance => &[Member::Account, Member::Extras, Member::Cut],
+            Operation::AccountTurnovers | Operation::AccountBoth => &[
+                Member::Account,
+                Member::Extras,
+                Member::From,
+                Member::To,
+                Member::By,
+            ],
+            Operation::DrCr => &[Member::Account, Member::From, Member::To],
+            Operation::Documents => &[Member::From, Member::To],
             _ => &[],
         }
     }

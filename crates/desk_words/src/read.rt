@@ -11,8 +11,12 @@ use crate::fault::{Member, WordFault};
 use crate::members::{Operation, first_missing, first_unknown_member, has_member};
 use crate::parsed::{Object, json_document, member};
 use crate::read_requests::{
-    balance_request, close_request, doc_question, manual_request, standing_document, standing_post,
-    sweep_request, switch_request, write_request,
+    close_request, doc_question, manual_request, standing_document, standing_post, sweep_request,
+    switch_request, write_request,
+};
+use crate::read_tables::{
+    account_balance_request, account_turnovers_request, balance_request, both_request,
+    documents_question, dr_cr_request, turnovers_request,
 };
 use crate::request::{Post, Request};
 use json_laws::value_has_utf8;
@@ -121,5 +125,18 @@ fn members_of(alloc: Global, operation: Operation, object: &Object) -> Result<Re
             Ok(Request::Post(Post::Standing(standing_post(alloc, object)?)))
         }
         Operation::Unpost => Ok(Request::Unpost(standing_document(alloc, object)?)),
+        Operation::Turnovers => Ok(Request::Turnovers(turnovers_request(alloc, object)?)),
+        Operation::Both => Ok(Request::Both(both_request(alloc, object)?)),
+        Operation::AccountBalance => {
+            Ok(Request::AccountBalance(account_balance_request(alloc, object)?))
+        }
+        Operation::AccountTurnovers => {
+            Ok(Request::AccountTurnovers(account_turnovers_request(alloc, object)?))
+        }
+        Operation::AccountBoth => {
+            Ok(Request::AccountBoth(account_turnovers_request(alloc, object)?))
+        }
+        Operation::DrCr => Ok(Request::DrCr(dr_cr_request(alloc, object)?)),
+        Operation::Documents => Ok(Request::Documents(documents_question(alloc, object)?)),
     }
 }

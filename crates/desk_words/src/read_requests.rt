@@ -2,17 +2,18 @@
 ghost use Rattle.serde_json.specs.View.{members_view};
 ghost use Rattle.reg_base.specs.Results.{Gives};
 ghost use Rattle.desk_words.specs.declared.fault.WordFault.TheVariants.{Memory};
-ghost use Rattle.desk_words.specs.ReadRequests.{key_beside, write_request, switch_request};
+ghost use Rattle.desk_words.specs.ReadRequests.{key_beside, heading_of, write_request};
+ghost use Rattle.desk_words.specs.ReadRequests.{switch_request};
 ghost use Rattle.desk_words.specs.ReadRequests.{manual_request, close_request, sweep_request};
-ghost use Rattle.desk_words.specs.ReadRequests.{balance_request, doc_question, standing_document};
+ghost use Rattle.desk_words.specs.ReadRequests.{doc_question, standing_document};
 ghost use Rattle.desk_words.specs.ReadRequests.{standing_post};
 
 use crate::fault::{Member, WordFault};
 use crate::members::{content_members, first_present};
 use crate::parsed::Object;
-use crate::request::{Balance, Close, DocQuestion, Manual, StandingDocument, Sweep, Switch, Write};
+use crate::request::{Close, DocQuestion, Manual, StandingDocument, Sweep, Switch, Write};
 use crate::shapes::{read_member, read_optional};
-use reg_base::Code;
+use reg_base::{Code, Name};
 use std::alloc::Global;
 
 // The key of a document. Only a new document is given one, so that a key beside a number is
@@ -30,24 +31,46 @@ fn key_beside(alloc: Global, doc: &Option<u32>, object: &Object) -> Result<Optio
     Ok(key)
 }
 
-#[tactic(auto, unfolding(crate::specs::ReadRequests::write_request))]
-pub(crate) fn write_request(alloc: Global, object: &Object) -> Result<Write, WordFault>
-    ensures { Gives Memory result (write_request (members_view object.now.entries)) }
+// Whose request it is, and which document it makes or replaces.
+#[derive(Clone, Copy)]
+struct Heading {
+    clerk: Name,
+    no: u32,
+    doc: Option<u32>,
+    key: Option<Code>,
+}
+
+#[tactic(auto, unfolding(crate::specs::ReadRequests::heading_of))]
+fn heading_of(alloc: Global, object: &Object) -> Result<Heading, WordFault>
+    ensures { Gives Memory result (heading_of (members_view object.now.entries)) }
 {
     let clerk = read_member(alloc, Member::Clerk, object)?;
     let no = read_member(alloc, Member::No, object)?;
     let doc = read_optional(alloc, Member::Doc, object)?;
     let key = key_beside(alloc, &doc, object)?;
+    Ok(Heading {
+        clerk,
+        no,
+        doc,
+        key,
+    })
+}
+
+#[tactic(auto, unfolding(crate::specs::ReadRequests::write_request))]
+pub(crate) fn write_request(alloc: Global, object: &Object) -> Result<Write, WordFault>
+    ensures { Gives Memory result (write_request (members_view object.now.entries)) }
+{
+    let given = heading_of(alloc, object)?;
     let kind = read_member(alloc, Member::Kind, object)?;
     let date = read_member(alloc, Member::Date, object)?;
     let head = read_member(alloc, Member::Head, object)?;
     let lines = read_member(alloc, Member::Lines, object)?;
     let comment = read_optional(alloc, Member::Comment, object)?;
     Ok(Write {
-        clerk,
-        no,
-        doc,
-        key,
+        clerk: given.clerk,
+        no: given.no,
+        doc: given.doc,
+        key: given.key,
         kind,
         date,
         head,
@@ -91,14 +114,12 @@ pub(crate) fn standing_post(alloc: Global, object: &Object) -> Result<StandingDo
 pub(crate) fn switch_request(alloc: Global, object: &Object) -> Result<Switch, WordFault>
     ensures { Gives Memory result (switch_request (members_view object.now.entries)) }
 {
-    let clerk = read_member(alloc, Member::Clerk, object)?;
-    let no = read_member(alloc, Member::No, object)?;
-    let doc = read_member(alloc, Member::Doc, object)?;
+    let standing = standing_document(alloc, object)?;
     let on = read_member(alloc, Member::On, object)?;
     Ok(Switch {
-        clerk,
-        no,
-        doc,
+        clerk: standing.clerk,
+        no: standing.no,
+        doc: standing.doc,
         on,
         tx: None,
     })
@@ -108,18 +129,15 @@ pub(crate) fn switch_request(alloc: Global, object: &Object) -> Result<Switch, W
 pub(crate) fn manual_request(alloc: Global, object: &Object) -> Result<Manual, WordFault>
     ensures { Gives Memory result (manual_request (members_view object.now.entries)) }
 {
-    let clerk = read_member(alloc, Member::Clerk, object)?;
-    let no = read_member(alloc, Member::No, object)?;
-    let doc = read_optional(alloc, Member::Doc, object)?;
-    let key = key_beside(alloc, &doc, object)?;
+    let given = heading_of(alloc, object)?;
     let date = read_member(alloc, Member::Date, object)?;
     let sets = read_member(alloc, Member::Sets, object)?;
     let comment = read_optional(alloc, Member::Comment, object)?;
     Ok(Manual {
-        clerk,
-        no,
-        doc,
-        key,
+        clerk: given.clerk,
+        no: given.no,
+        doc: given.doc,
+        key: given.key,
         date,
         sets,
         comment,
@@ -141,26 +159,11 @@ pub(crate) fn close_request(alloc: Global, object: &Object) -> Result<Close, Wor
 pub(crate) fn sweep_request(alloc: Global, object: &Object) -> Result<Sweep, WordFault>
     ensures { Gives Memory result (sweep_request (members_view object.now.entries)) }
 {
-    let clerk = read_member(alloc, Member::Clerk, object)?;
-    let no = read_member(alloc, Member::No, object)?;
-    let doc = read_member(alloc, Member::Doc, object)?;
-    Ok(Sweep { clerk, no, doc })
-}
-
-#[tactic(auto, unfolding(crate::specs::ReadRequests::balance_request))]
-pub(crate) fn balance_request(alloc: Global, object: &Object) -> Result<Balance, WordFault>
-    ensures { Gives Memory result (balance_request (members_view object.now.entries)) }
-{
-    let clerk = read_member(alloc, Member::Clerk, object)?;
-    let register = read_member(alloc, Member::Register, object)?;
-    let cut = read_optional(alloc, Member::Cut, object)?;
-    Ok(Balance {
-        clerk,
-        register,
-        filter: None,
-        group: None,
-        cut,
-        tx: None,
+    let standing = standing_document(alloc, object)?;
+    Ok(Sweep {
+        clerk: standing.clerk,
+        no: standing.no,
+        doc: standing.doc,
     })
 }
 

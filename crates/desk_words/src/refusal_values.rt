@@ -10,13 +10,16 @@ ghost use Rattle.desk_words.specs.ReplyTexts.{HasMissingScale, RefusalHasScales}
 ghost use Rattle.desk_words.specs.RefusalTexts.{word_fault_detail, word_fault_members};
 ghost use Rattle.desk_words.specs.RefusalTexts.{place_members, missing_text as missing_text_of};
 ghost use Rattle.desk_words.specs.RefusalTexts.{post_fault_detail, post_fault_members};
+ghost use Rattle.desk_words.specs.RefusalTexts.{table_fault_detail, table_fault_members};
 ghost use Rattle.desk_words.specs.RefusalTexts.{refusal_detail, refusal_data};
 
 use crate::fault::WordFault;
 use crate::json_values::{put_text, put_value};
 use crate::parsed::Object;
-use crate::reply::{Refusal, entry_fault_number, post_fault_number, state_name};
-use reg_base::{Date, List, Memory, Name, PostFault, Scale, Value, sum_string};
+use crate::reply::{
+    Refusal, entry_fault_number, post_fault_number, state_name, table_fault_number,
+};
+use reg_base::{Date, List, Memory, Name, PostFault, Scale, TableFault, Value, sum_string};
 use serde_json::{Value as Json, put};
 use std::alloc::Global;
 
@@ -57,6 +60,7 @@ fn refusal_detail(alloc: Global, refusal: &Refusal) -> Result<Object, Memory>
             balance,
             scale,
         } => control_members(alloc, register, values, *balance, *scale),
+        Refusal::Table { fault } => table_fault_members(alloc, fault),
     }
 }
 
@@ -79,6 +83,36 @@ fn control_members(
     put_value(alloc, &mut members, "register", register)?;
     put_value(alloc, &mut members, "values", values)?;
     Ok(members)
+}
+
+#[tactic(auto, unfolding(crate::specs::RefusalTexts::table_fault_members))]
+fn table_fault_members(alloc: Global, fault: &TableFault) -> Result<Object, Memory>
+    ensures { IfOk result (λ m. members_view m.entries ≡ table_fault_members fault.now) }
+{
+    let mut members = table_fault_detail(alloc, fault)?;
+    put(
+        &mut members,
+        alloc,
+        "fault",
+        Json::from(table_fault_number(fault)),
+    )?;
+    Ok(members)
+}
+
+// What a fault of a table tells besides its number.
+fn table_fault_detail(alloc: Global, fault: &TableFault) -> Result<Object, Memory>
+    ensures { IfOk result (λ m. members_view m.entries ≡ table_fault_detail fault.now) }
+{
+    match *fault {
+        TableFault::BadRange { from, to } => {
+            let mut members = Object::new(alloc);
+            put_value(alloc, &mut members, "from", &from)?;
+            put_value(alloc, &mut members, "to", &to)?;
+            Ok(members)
+        }
+        TableFault::TooManyRows { limit } => whole_member(alloc, "limit", u64::from(limit)),
+        TableFault::UnknownField { name } => text_member(alloc, "field", name.as_str()),
+    }
 }
 
 #[tactic(auto, unfolding(crate::specs::RefusalTexts::post_fault_members))]

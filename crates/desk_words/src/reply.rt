@@ -3,6 +3,7 @@ ghost use Rattle.std.specs.Prelude.{◌≡◌, OnOk, OnErr, ◌++◌};
 ghost use Rattle.desk_words.specs.ReplyTexts.{HasScales, reply_text};
 ghost use Rattle.desk_words.specs.ReplyWords.{state_name, field_name, limit_name};
 ghost use Rattle.desk_words.specs.ReplyWords.{post_fault_number, entry_fault_number};
+ghost use Rattle.desk_words.specs.ReplyWords.{table_fault_number};
 ghost use Rattle.desk_words.specs.ReplyWords.{refusal_number, refusal_name};
 
 use crate::fault::WordFault;
@@ -10,8 +11,8 @@ use crate::json_values::print_value;
 use crate::reply_values::reply_value;
 use crate::request::{FieldText, SetText};
 use reg_base::{
-    Code, Comment, Date, DocState, EntryFault, List, Memory, Name, PostFault, Right, Scale, SumRow,
-    Value,
+    AccountRow, Code, Comment, Date, DocRow, DocState, EntryFault, List, Memory, Name, PairRow,
+    PostFault, Right, Row, Scale, SumRow, TableFault, Value,
 };
 use std::alloc::Global;
 
@@ -55,6 +56,41 @@ pub enum Answer {
         scales: List<Scale>,
     },
     Shown(ShownDocument),
+    Turnovers {
+        /// Whether the register has balances: its rows tell receipts and expenses apart.
+        balances: bool,
+        rows: List<Row>,
+        /// How many decimals each resource has: a scale for each number of a list, in order.
+        scales: List<Scale>,
+    },
+    Both {
+        rows: List<Row>,
+        /// How many decimals each resource has: a scale for each number of a list, in order.
+        scales: List<Scale>,
+    },
+    AccountBalance {
+        rows: List<AccountRow>,
+        /// How many decimals the ledger has.
+        scale: Scale,
+    },
+    AccountTurnovers {
+        rows: List<AccountRow>,
+        /// How many decimals the ledger has.
+        scale: Scale,
+    },
+    AccountBoth {
+        rows: List<AccountRow>,
+        /// How many decimals the ledger has.
+        scale: Scale,
+    },
+    DrCr {
+        rows: List<PairRow>,
+        /// How many decimals the ledger has.
+        scale: Scale,
+    },
+    Documents {
+        rows: List<DocRow>,
+    },
 }
 
 /// A document as it is shown: what it says, and the records that it has made.
@@ -135,6 +171,10 @@ pub enum Refusal {
         /// The decimals of the resource.
         scale: Scale,
     },
+    /// The table can't be made.
+    Table {
+        fault: TableFault,
+    },
 }
 
 /// A field of a request, as a refusal names it.
@@ -147,7 +187,8 @@ pub enum Field {
     Sums,
     Kind,
     Amount,
-    /// A field of a document type of the configuration.
+    Account,
+    /// A field of a document type of the configuration, or a dimension of a register.
     Named(Name),
 }
 
@@ -196,6 +237,7 @@ impl Refusal {
             Refusal::Limit { .. } => 14,
             Refusal::Rule { .. } => 15,
             Refusal::Control { .. } => 18,
+            Refusal::Table { .. } => 19,
         }
     }
 
@@ -217,6 +259,7 @@ impl Refusal {
             Refusal::Limit { .. } => "Limit",
             Refusal::Rule { .. } => "Rule",
             Refusal::Control { .. } => "Control",
+            Refusal::Table { .. } => "Table",
         }
     }
 }
@@ -234,6 +277,7 @@ impl Field {
             Field::Sums => "sums",
             Field::Kind => "kind",
             Field::Amount => "amount",
+            Field::Account => "account",
             Field::Named(name) => name.as_str(),
         }
     }
@@ -287,5 +331,16 @@ pub(crate) fn entry_fault_number(fault: EntryFault) -> u64
         EntryFault::GroupAccount => 2,
         EntryFault::ExtraCount => 3,
         EntryFault::Sides => 4,
+    }
+}
+
+// The number of a fault of a table.
+pub(crate) fn table_fault_number(fault: &TableFault) -> u64
+    ensures { result ≡ table_fault_number fault.now }
+{
+    match fault {
+        TableFault::BadRange { .. } => 1,
+        TableFault::TooManyRows { .. } => 2,
+        TableFault::UnknownField { .. } => 3,
     }
 }

@@ -1,21 +1,21 @@
 //! Replies as JSON.
-ghost use Rattle.std.specs.Prelude.{◌≡◌, length, map, string_bytes, All, IfOk};
-ghost use Rattle.serde_json.specs.Data.{string, object, no_members, member};
+ghost use Rattle.std.specs.Prelude.{◌≡◌, IfOk};
 ghost use Rattle.serde_json.specs.View.{view};
 ghost use Rattle.desk_words.specs.ReplyTexts.{AnswerHasScales, HasScales};
-ghost use Rattle.desk_words.specs.ReplyWords.{value_text as value_text_of};
-ghost use Rattle.desk_words.specs.ReplyTexts.{sum_texts as sum_texts_of, row_data, rows_data};
-ghost use Rattle.desk_words.specs.ReplyTexts.{document_data, acknowledgement_data};
-ghost use Rattle.desk_words.specs.ReplyTexts.{key_data, kind_name as kind_name_of, shown_data};
+ghost use Rattle.desk_words.specs.ReplyTexts.{document_data, acknowledgement_data, shown_data};
 ghost use Rattle.desk_words.specs.ReplyTexts.{answer_data, reply_data};
-ghost use Rattle.desk_words.specs.JsonValues.{texts_data};
 
-use crate::json_values::{ToJson, array_value, put_text, put_value};
+use crate::json_values::{ToJson, one_member, put_text, put_value};
 use crate::parsed::Object;
 use crate::refusal_values::refusal_value;
 use crate::reply::{Acknowledgement, Answer, Reply, ShownDocument, state_name};
-use reg_base::{Code, DocState, List, Memory, Name, Scale, SumRow, Value, sum_string};
-use serde_json::{Value as Json, put};
+use crate::row_parts::kind_name;
+use crate::row_values::{
+    AccountTable, RegisterTable, account_table, document_table, pair_table, register_table,
+    sum_table, turnovers_table,
+};
+use reg_base::{DocState, Memory};
+use serde_json::Value as Json;
 use std::alloc::Global;
 
 // A reply as JSON.
@@ -30,14 +30,6 @@ pub(crate) fn reply_value(alloc: Global, reply: &Reply) -> Result<Json, Memory>
     }
 }
 
-fn one_member(alloc: Global, name: &str, value: Json) -> Result<Json, Memory>
-    ensures { IfOk result (λ v. view v ≡ object (member name.now (view value) no_members)) }
-{
-    let mut members = Object::new(alloc);
-    put(&mut members, alloc, name, value)?;
-    Ok(Json::Object(members))
-}
-
 #[tactic(auto, unfolding(crate::specs::ReplyTexts::answer_data))]
 fn answer_value(alloc: Global, answer: &Answer) -> Result<Json, Memory>
     requires { AnswerHasScales answer.now }
@@ -45,11 +37,35 @@ fn answer_value(alloc: Global, answer: &Answer) -> Result<Json, Memory>
 {
     match answer {
         Answer::Acknowledged(acknowledgement) => acknowledgement_value(alloc, *acknowledgement),
-        Answer::Balance { rows, scales } => {
-            let rows = rows_value(alloc, rows.as_slice(), scales.as_slice())?;
-            one_member(alloc, "rows", rows)
-        }
+        Answer::Balance { rows, scales } => { sum_table(alloc, rows.as_slice(), scales.as_slice()) }
         Answer::Shown(shown) => shown_value(alloc, shown),
+        Answer::Turnovers {
+            balances,
+            rows,
+            scales,
+        } => register_table(
+            alloc,
+            turnovers_table(*balances),
+            rows.as_slice(),
+            scales.as_slice(),
+        ),
+        Answer::Both { rows, scales } => register_table(
+            alloc,
+            RegisterTable::Both,
+            rows.as_slice(),
+            scales.as_slice(),
+        ),
+        Answer::AccountBalance { rows, scale } => {
+            account_table(alloc, AccountTable::Balance, rows.as_slice(), *scale)
+        }
+        Answer::AccountTurnovers { rows, scale } => {
+            account_table(alloc, AccountTable::Turnovers, rows.as_slice(), *scale)
+        }
+        Answer::AccountBoth { rows, scale } => {
+            account_table(alloc, AccountTable::Both, rows.as_slice(), *scale)
+        }
+        Answer::DrCr { rows, scale } => pair_table(alloc, rows.as_slice(), *scale),
+        Answer::Documents { rows } => document_table(alloc, rows.as_slice()),
     }
 }
 
@@ -92,90 +108,4 @@ fn shown_value(alloc: Global, shown: &ShownDocument) -> Result<Json, Memory>
     put_value(alloc, &mut members, "sets", &shown.sets)?;
     put_text(alloc, &mut members, "state", state_name(shown.state))?;
     Ok(Json::Object(members))
-}
-
-impl ToJson for Option<Code> {
-    ghost json = { key_data };
-
-    fn to_json(&self, alloc: Global) -> Result<Json, Memory> {
-        match self {
-            Some(key) => key.to_json(alloc),
-            None => Ok(Json::Null),
-        }
-    }
-}
-
-fn kind_name(kind: &Option<Name>) -> &str
-    ensures { result.now ≡ kind_name_of kind.now }
-{
-    match kind {
-        Some(name) => name.as_str(),
-        None => "manual",
-    }
-}
-
-#[tactic(auto, unfolding(crate::specs::ReplyTexts::rows_data))]
-fn rows_value(alloc: Global, rows: &[SumRow], scales: &[Scale]) -> Result<Json, Memory>
-    requires { All (λ row. length row.sums ≡ length scales.now) rows.now }
-    ensures { IfOk result (λ v. view v ≡ rows_data scales.now rows.now) }
-{
-    let mut values = Vec::new(alloc);
-    'rows: for row in rows {
-        values.push(row_value(alloc, row, scales)?)?;
-    }
-    Ok(Json::Array(values))
-}
-
-#[tactic(auto, unfolding(crate::specs::ReplyTexts::row_data))]
-fn row_value(alloc: Global, row: &SumRow, scales: &[Scale]) -> Result<Json, Memory>
-    requires { length row.now.sums ≡ length scales.now }
-    ensures { IfOk result (λ v. view v ≡ row_data scales.now row.now) }
-{
-    let mut members = Object::new(alloc);
-    put_value(alloc, &mut members, "group", &row.group)?;
-    put(
-        &mut members,
-        alloc,
-        "sums",
-        sums_value(alloc, row.sums.as_slice(), scales)?,
-    )?;
-    Ok(Json::Object(members))
-}
-
-impl ToJson for List<Value> {
-    ghost json = { λ group. texts_data (map value_text_of group) };
-
-    #[tactic(auto, unfolding(crate::specs::JsonValues::texts_data))]
-    fn to_json(&self, alloc: Global) -> Result<Json, Memory> {
-        array_value(alloc, self.as_slice())
-    }
-}
-
-impl ToJson for Value {
-    ghost json = { λ value. string (value_text_of value) };
-
-    fn to_json(&self, alloc: Global) -> Result<Json, Memory> {
-        Ok(Json::String(value_text(alloc, self)?))
-    }
-}
-
-fn value_text(alloc: Global, value: &Value) -> Result<String, Memory>
-    ensures { IfOk result (λ text. string_bytes text ≡ value_text_of value.now) }
-{
-    match value {
-        Value::Code(code) => Ok(String::from_str(alloc, code.as_str())?),
-        Value::Lot(point) => Ok(point.to_text(alloc)?),
-    }
-}
-
-#[tactic(auto, unfolding(crate::specs::JsonValues::texts_data))]
-fn sums_value(alloc: Global, sums: &[i128], scales: &[Scale]) -> Result<Json, Memory>
-    requires { length sums.now ≡ length scales.now }
-    ensures { IfOk result (λ v. view v ≡ texts_data (sum_texts_of scales.now sums.now)) }
-{
-    let mut texts = Vec::new(alloc);
-    'sums: for (scale, sum) in scales.iter().zip(sums) {
-        texts.push(Json::String(sum_string(alloc, *sum, scale.get())?))?;
-    }
-    Ok(Json::Array(texts))
 }

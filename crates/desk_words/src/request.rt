@@ -1,4 +1,7 @@
 //! A request, with its members as fields. Texts stay texts: the configuration says what they mean.
+use crate::tables::{
+    AccountBalance, AccountTurnovers, AskedRegister, Both, DocumentsQuestion, DrCr, Turnovers,
+};
 use reg_base::{Code, Comment, Cut, Date, List, Mark, Name, Side, Text};
 
 /// What a line asks for.
@@ -14,6 +17,14 @@ pub enum Request {
     Doc(DocQuestion),
     Post(Post),
     Unpost(StandingDocument),
+    Turnovers(Turnovers),
+    Both(Both),
+    AccountBalance(AccountBalance),
+    AccountTurnovers(AccountTurnovers),
+    /// What `AccountTurnovers` asks for, with the balances at both ends.
+    AccountBoth(AccountTurnovers),
+    DrCr(DrCr),
+    Documents(DocumentsQuestion),
 }
 
 /// The content of a document of a type: of a new one, or of one that stands.
@@ -135,11 +146,7 @@ pub struct LedgerText {
 #[derive(Drop)]
 pub struct Balance {
     pub clerk: Name,
-    pub register: Name,
-    /// Absent: all records.
-    pub filter: Option<List<FilterText>>,
-    /// Absent: a row per list of values of all dimensions.
-    pub group: Option<List<Name>>,
+    pub register: AskedRegister,
     /// Absent: all records up to now.
     pub cut: Option<Cut>,
     /// The open transaction that the request is of.

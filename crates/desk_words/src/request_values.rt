@@ -1,20 +1,23 @@
 //! Requests as JSON.
 ghost use Rattle.std.specs.Prelude.{◌≡◌, Some, map, IfOk};
 ghost use Rattle.serde_json.specs.Data.{array};
-ghost use Rattle.serde_json.specs.View.{view, items_of, members_view};
+ghost use Rattle.serde_json.specs.View.{view, items_of};
 ghost use Rattle.desk_words.specs.JsonValues.{texts_data};
 ghost use Rattle.desk_words.specs.RequestTexts.{mark_name as mark_name_of, side_data};
 ghost use Rattle.desk_words.specs.RequestTexts.{register_data, ledger_data, record_data, set_data};
-ghost use Rattle.desk_words.specs.RequestTexts.{sets_data, filters_data, balance_frame};
-ghost use Rattle.desk_words.specs.RequestTexts.{balance_members, request_data};
+ghost use Rattle.desk_words.specs.RequestTexts.{sets_data, request_data};
 
 use crate::command_values::{
     close_members, doc_members, manual_members, post_members, standing_members, sweep_members,
     switch_members, write_members,
 };
-use crate::json_values::{ToJson, array_value, push_items, put_some, put_text, put_value, text};
+use crate::json_values::{ToJson, array_value, push_items, put_text, put_value, text};
 use crate::parsed::Object;
-use crate::request::{Balance, FilterText, LedgerText, RecordText, RegisterText, Request, SetText};
+use crate::request::{LedgerText, RecordText, RegisterText, Request, SetText};
+use crate::table_values::{
+    account_balance_members, account_turnovers_members, balance_members, both_members,
+    documents_members, dr_cr_members, turnovers_members,
+};
 use reg_base::{List, Mark, Memory, Side};
 use serde_json::Value as Json;
 use std::alloc::Global;
@@ -39,43 +42,21 @@ pub(crate) fn request_value(alloc: Global, request: &Request) -> Result<Json, Me
         Request::Unpost(standing) => {
             Ok(Json::Object(standing_members(alloc, "unpost", standing)?))
         }
-    }
-}
-
-#[tactic(auto, unfolding(crate::specs::RequestTexts::balance_members))]
-fn balance_members(alloc: Global, balance: &Balance) -> Result<Object, Memory>
-    ensures { IfOk result (λ m. members_view m.entries ≡ balance_members balance.now) }
-{
-    let mut members = balance_frame(alloc, balance)?;
-    put_some(alloc, &mut members, "filter", &balance.filter)?;
-    put_some(alloc, &mut members, "group", &balance.group)?;
-    put_some(alloc, &mut members, "cut", &balance.cut)?;
-    put_some(alloc, &mut members, "tx", &balance.tx)?;
-    Ok(members)
-}
-
-// The members that are never absent.
-#[tactic(auto, unfolding(crate::specs::RequestTexts::balance_frame))]
-fn balance_frame(alloc: Global, balance: &Balance) -> Result<Object, Memory>
-    ensures { IfOk result (λ m. members_view m.entries ≡ balance_frame balance.now) }
-{
-    let mut members = Object::new(alloc);
-    put_value(alloc, &mut members, "clerk", &balance.clerk)?;
-    put_text(alloc, &mut members, "op", "balance")?;
-    put_value(alloc, &mut members, "register", &balance.register)?;
-    Ok(members)
-}
-
-impl ToJson for List<FilterText> {
-    ghost json = { filters_data };
-
-    // An object with the values of each name, a name that comes twice with its later ones.
-    fn to_json(&self, alloc: Global) -> Result<Json, Memory> {
-        let mut members = Object::new(alloc);
-        'filters: for filter in self.as_slice() {
-            put_value(alloc, &mut members, filter.name.as_str(), &filter.values)?;
+        Request::Turnovers(asked) => {
+            Ok(Json::Object(turnovers_members(alloc, "turnovers", asked)?))
         }
-        Ok(Json::Object(members))
+        Request::Both(both) => Ok(Json::Object(both_members(alloc, both)?)),
+        Request::AccountBalance(asked) => Ok(Json::Object(account_balance_members(alloc, asked)?)),
+        Request::AccountTurnovers(asked) => {
+            let members = account_turnovers_members(alloc, "account_turnovers", asked)?;
+            Ok(Json::Object(members))
+        }
+        Request::AccountBoth(asked) => {
+            let members = account_turnovers_members(alloc, "account_both", asked)?;
+            Ok(Json::Object(members))
+        }
+        Request::DrCr(asked) => Ok(Json::Object(dr_cr_members(alloc, asked)?)),
+        Request::Documents(asked) => Ok(Json::Object(documents_members(alloc, asked)?)),
     }
 }
 

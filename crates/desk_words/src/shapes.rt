@@ -1,5 +1,5 @@
 //! The shapes of members. A wrong one is told by the member that it stands in.
-ghost use Rattle.std.specs.Prelude.{◌≡◌, Result};
+ghost use Rattle.std.specs.Prelude.{◌≡◌, Result, List as ListOf, ℕ};
 ghost use Rattle.serde_json.specs.Data.{Data};
 ghost use Rattle.serde_json.specs.View.{view, items_view, members_view};
 ghost use Rattle.reg_base.specs.Results.{some_or, Gives, GivesAs};
@@ -9,6 +9,7 @@ ghost use Rattle.desk_words.specs.declared.fault.WordFault.TheVariants.{Memory};
 ghost use Rattle.desk_words.specs.Shapes.{value_at, shape_at, json_object, json_items, json_text};
 ghost use Rattle.desk_words.specs.Shapes.{json_name, json_code, json_date, json_cut, json_number};
 ghost use Rattle.desk_words.specs.Shapes.{json_list, json_texts, json_comment, json_boolean};
+ghost use Rattle.desk_words.specs.Shapes.{json_date_end, json_names, each_named};
 ghost use Rattle.desk_words.specs.Shapes.{required_at, optional_at};
 
 use crate::fault::{Member, WordFault};
@@ -24,6 +25,20 @@ pub(crate) trait FromJson: Drop {
     // Reads a value that stands within a member.
     fn from_json(alloc: Global, within: Member, value: &Value) -> Result<Self, WordFault>
         ensures { Gives Memory result (reads within (view value.now)) };
+}
+
+// What a member of an object is read as, with its name.
+pub(crate) trait FromNamed: Drop {
+    ghost reads: { MemberOf → ListOf ℕ → Data → Result Self FaultOf };
+
+    // Reads a member of an object that stands within a member of the request.
+    fn from_named(
+        alloc: Global,
+        within: Member,
+        name: &str,
+        value: &Value,
+    ) -> Result<Self, WordFault>
+        ensures { Gives Memory result (reads within name.now (view value.now)) };
 }
 
 // Reads what an object has under a name.
@@ -115,6 +130,23 @@ pub(crate) fn json_list<X: FromJson>(
     Ok(found)
 }
 
+// Each member of an object, in byte order of their names.
+pub(crate) fn each_named<X: FromNamed>(
+    alloc: Global,
+    within: Member,
+    object: &Object,
+) -> Result<List<X>, WordFault>
+    ensures { Gives Memory result
+        (each_named (X.reads within) (members_view object.now.entries)) }
+{
+    let mut found = List::new(alloc);
+    'members: for (name, value) in object.iter() {
+        let entry = X::from_named(alloc, within, name.as_str(), value)?;
+        found.push(entry)?;
+    }
+    Ok(found)
+}
+
 #[tactic(auto, unfolding(crate::specs::Shapes::json_text))]
 pub(crate) fn json_text(within: Member, value: &Value) -> Result<&str, WordFault>
     ensures { GivesAs Memory (λ s. s.now) result (json_text within (view value.now)) }
@@ -156,6 +188,15 @@ impl FromJson for Name {
     }
 }
 
+impl FromJson for List<Name> {
+    ghost reads = { json_names };
+
+    #[tactic(auto, unfolding(crate::specs::Shapes::json_names))]
+    fn from_json(alloc: Global, within: Member, value: &Value) -> Result<List<Name>, WordFault> {
+        json_list(alloc, within, value)
+    }
+}
+
 impl FromJson for Code {
     ghost reads = { json_code };
 
@@ -179,6 +220,29 @@ impl FromJson for Date {
             Ok(date) => Ok(date),
             Err(_) => Err(WordFault::BadMember { member: within }),
         }
+    }
+}
+
+// A date that a day alone spells as its last second.
+#[tactic(auto, unfolding(crate::specs::Shapes::json_date_end))]
+fn json_date_end(within: Member, value: &Value) -> Result<Date, WordFault>
+    ensures { Gives Memory result (json_date_end within (view value.now)) }
+{
+    let text = json_text(within, value)?;
+    match Date::parse_end(text) {
+        Ok(date) => Ok(date),
+        Err(_) => Err(WordFault::BadMember { member: within }),
+    }
+}
+
+// The same at a member that may be absent.
+pub(crate) fn read_date_end(within: Member, object: &Object) -> Result<Option<Date>, WordFault>
+    ensures { Gives Memory result
+        (optional_at json_date_end within (members_view object.now.entries)) }
+{
+    match member(object, within.name()) {
+        Some(value) => Ok(Some(json_date_end(within, value)?)),
+        None => Ok(None),
     }
 }
 

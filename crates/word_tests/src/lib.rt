@@ -19,8 +19,12 @@ mod print_tests;
 #[cfg(test)]
 mod reply_tests;
 #[cfg(test)]
+mod row_tests;
+#[cfg(test)]
 mod rows;
 #[cfg(test)]
 mod shown_tests;
+#[cfg(test)]
+mod table_tests;
 #[cfg(test)]
 mod tests;

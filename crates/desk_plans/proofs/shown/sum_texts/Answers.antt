@@ -1,6 +1,6 @@
 use Rattle.std.proofs.Common.{map}
 use Rattle.std.proofs.lemmas.Slice.Zip.{either_empty_from_Zip}
-use Rattle.desk_words.specs.ReplyTexts.{sum_texts}
+use Rattle.desk_words.specs.RowTexts.{sum_texts}
 use Rattle.desk_plans.proofs.ShownLemmas.{resource_sums-spent}
 use Rattle.desk_plans.proofs.shown.sum_texts.Goals as goal
 

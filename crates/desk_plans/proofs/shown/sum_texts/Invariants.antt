@@ -2,7 +2,7 @@
 use Rattle.std.proofs.Common.{◌≡◌, ◌++◌, map}
 use Rattle.std.specs.Iterator.Adapters.{zip_first, zip_second}
 use Rattle.std.specs.Slice.Iter.{iter_rest}
-use Rattle.desk_words.specs.ReplyTexts.{sum_texts}
+use Rattle.desk_words.specs.RowTexts.{sum_texts}
 use Rattle.desk_plans.proofs.shown.sum_texts.Given as goal
 
 abbrev pub invariant-sums : goal.invariant-sums

@@ -1,13 +1,15 @@
-use Rattle.std.proofs.Common.{◌≡◌, IfOk, List, ap, ◌∙◌, subst}
+use Rattle.std.proofs.Common.{◌≡◌, IfOk, List, All, ap, ◌∙◌, sym, subst}
+use Rattle.virt_tables.specs.Bounds.{HasShortRecords}
 use Rattle.std.specs.List.{flat_map}
 use Rattle.std.specs.Option.{option_copied}
 use Rattle.reg_base.specs.declared.records.SumRow.{SumRow}
 use Rattle.reg_base.specs.Records.{booked_by}
 use Rattle.reg_base.specs.Balances.{sum_rows}
-use Rattle.desk_core.specs.declared.rows.Query.{Query}
+use Rattle.virt_tables.specs.declared.cuts.Query.{Query}
 use Rattle.desk_core.specs.Books.{BooksView, resources_at}
-use Rattle.desk_core.specs.Rows.{counted}
-use Rattle.desk_core.proofs.RowLemmas.{rows-others}
+use Rattle.virt_tables.specs.Cuts.{counted}
+use Rattle.virt_tables.proofs.ForAbove.{rows-others}
+use Rattle.desk_core.proofs.ShortLemmas.{short-records}
 use Rattle.desk_core.proofs.books.BooksBalances.sums.Goals as goal
 
 pub returns : goal.returns
@@ -29,3 +31,8 @@ returns c =
     (ap (λ (x : Query). option_copied x.by) is) (ap (λ (x : Query). x.filter.now) is)
     (ap (λ (x : Query). x.cut.now) is) (ap (λ (x : Query). x.skip) is))
     c.balance_rows.ensures
+
+pub balance_rows-requires-clause-short : goal.balance_rows-requires-clause-short
+balance_rows-requires-clause-short c =
+    subst (All HasShortRecords) (sym c.walk.ensures.walk)
+    (short-records c.self.inside.store.now.documents c.self.invariant.short)

@@ -1,5 +1,0 @@
-use Rattle.std.proofs.Common.{◌≡◌, map, take}
-use Rattle.desk_core.proofs.questions.scales_of.Given as goal
-
-abbrev pub invariant-resources : goal.invariant-resources
-invariant-resources l = l.scales.items ≡ map (λ r. r.scale) (take l.resource-index l.resources)

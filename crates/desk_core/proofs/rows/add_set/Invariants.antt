@@ -1,8 +1,0 @@
-use Rattle.std.proofs.Common.{map, take}
-use Rattle.row_sums.specs.Sums.{booked}
-use Rattle.desk_core.specs.Rows.{AddsFor}
-use Rattle.desk_core.proofs.rows.add_set.Given as goal
-
-abbrev pub invariant-loop-rec : goal.invariant-loop-rec
-invariant-loop-rec l =
-    AddsFor l.query (map (booked l.number) (take l.rec-index l.set)) l.initial.sums l.sums

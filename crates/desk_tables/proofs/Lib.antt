@@ -1,0 +1,4 @@
+pub mod AnswerLemmas
+pub mod AskedLemmas
+pub mod ListedLemmas
+pub mod StepLemmas

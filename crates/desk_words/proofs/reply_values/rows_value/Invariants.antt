@@ -1,7 +1,0 @@
-use Rattle.std.proofs.Common.{◌≡◌, map, take}
-use Rattle.serde_json.specs.View.{view}
-use Rattle.desk_words.specs.ReplyTexts.{row_data}
-use Rattle.desk_words.proofs.reply_values.rows_value.Given as goal
-
-abbrev pub invariant-rows : goal.invariant-rows
-invariant-rows l = map view l.values.items ≡ map (row_data l.scales) (take l.row-index l.rows)
