@@ -11,6 +11,11 @@ use Rattle.desk_words.specs.declared.request.Request.{Request}
 use Rattle.desk_words.specs.Reading.{request_of_text}
 use Rattle.desk_words.specs.RequestTexts.{request_text}
 use Rattle.desk_model.specs.State.{Command}
+use Rattle.desk_history.specs.declared.entry.Command.{Command as Drawn}
+
+-- a command as the code holds it, as the machine's
+abbrev pub command_view : Drawn → Command
+command_view c = record { number = c.number; request = c.request }
 
 -- the line of a command: the number that was drawn for its document, or 0, a space, and the
 -- canonical text of its request

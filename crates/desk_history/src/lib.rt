@@ -11,6 +11,8 @@
 //! Leaves open: how the entries are kept, and what is replied.
 #![tactic(auto)]
 
+mod entry;
 mod laws;
 
+pub use entry::{Command, print_entry, read_entry};
 pub use laws::{accepted_requests_are_replayed, entries_read_back};
