@@ -1,23 +1,23 @@
 -- The text of a command is read back.
-use Rattle.std.proofs.Common.{◌≡◌, ℕ, ◌+◌, ◌-◌, ◌<◌, ◌^◌, true, false, ◌&&◌, nat_lt, List, []}
-use Rattle.std.proofs.Common.{◌∷◌, ◌++◌, length, take, drop, Some, Ok, refl, ap, ◌∙◌, arith}
+use Rattle.std.proofs.Common.{◌≡◌, ℕ, ◌+◌, ◌-◌, ◌<◌, ◌^◌, true, nat_lt, List, []}
+use Rattle.std.proofs.Common.{◌∷◌, ◌++◌, length, drop, Some, Ok, refl, ap, ◌∙◌, arith}
 use Rattle.std.proofs.Common.{append-nil, length-append, bytes_eq}
 use Rattle.std.specs.Char.{is_ascii_digit}
 use Rattle.std.proofs.lemmas.Bool.Decides.{nat_tests}
 use Rattle.std.proofs.lemmas.List.{take_at}
 use Rattle.std.proofs.lemmas.Slice.Eq.{bytes_eq-Decides}
 use Rattle.std.proofs.Math.Seq.{drop-append-add}
-use Rattle.reg_base.specs.Numbers.{number_text, decimal_value}
+use Rattle.reg_base.specs.Numbers.{number_text}
 use Rattle.reg_base.proofs.ForAbove.{all_digits-number_text, decimal_value-number_text}
 use Rattle.reg_base.proofs.ForAbove.{prefix_len-all}
 use Rattle.reg_base.specs.declared.line.Line.TheVariants.{Text}
 use Rattle.desk_words.specs.declared.request.Request.{Request}
-use Rattle.desk_words.specs.Reading.{request, request_of_text}
+use Rattle.desk_words.specs.Reading.{request}
 use Rattle.desk_words.specs.RequestTexts.{request_text}
 use Rattle.desk_words.specs.WellFormed.{IsRequest}
 use Rattle.desk_model.specs.State.{Command}
-use Rattle.desk_history.specs.Entries.{command_text, entry_text, leading_digits, behind_digits}
-use Rattle.desk_history.specs.Entries.{read_command, if_spelt, command_of}
+use Rattle.desk_history.specs.Entries.{command_text, commands_text, leading_digits, behind_digits}
+use Rattle.desk_history.specs.Entries.{read_command, command_of}
 
 -- the canonical text of every well-formed request is read as that request
 abbrev pub ReadBack : Type 0
@@ -48,8 +48,13 @@ read_command-text back c small is =
     let count : leading_digits (command_text c) ≡ length digits =
     prefix_len-all is_ascii_digit digits rest (all_digits-number_text c.number wide) refl in
     let front = take_at digits rest (length digits) refl in
-    rw (count, front, behind_number digits (request_text c.request), back c.request is,
-    decimal_value-number_text c.number wide) refl
+    rw (
+      count,
+      front,
+      behind_number digits (request_text c.request),
+      back c.request is,
+      decimal_value-number_text c.number wide,
+    ) refl
 
 -- the line of a command is that command's
 pub command_of-text : ReadBack → (c : Command) → c.number < 2 ^ 32 → IsRequest c.request →
@@ -60,7 +65,7 @@ command_of-text back c small is =
     rw (read_command-text back c small is, fits, same_text (command_text c)) refl
 
 -- the text of an entry of one command is that command's
-pub command_of-entry_text : ReadBack → (c : Command) → c.number < 2 ^ 32 → IsRequest c.request →
-    command_of (entry_text (c ∷ [])) ≡ Some c
-command_of-entry_text back c small is =
+pub command_of-commands_text : ReadBack → (c : Command) → c.number < 2 ^ 32 → IsRequest c.request →
+    command_of (commands_text (c ∷ [])) ≡ Some c
+command_of-commands_text back c small is =
     ap command_of (append-nil (command_text c)) ∙ command_of-text back c small is

@@ -1,14 +1,13 @@
 -- What a desk commits replays to the state that it leaves.
-use Rattle.std.proofs.Common.{◌≡◌, ℕ, ◌+◌, ◌<◌, ◌≤◌, ◌^◌, Bool, true, false, cond, nat_lt}
-use Rattle.std.proofs.Common.{nat_le, is_some, List, [], ◌∷◌, ◌++◌, map, Option, Some, None}
-use Rattle.std.proofs.Common.{option_and_then, Result, Ok, Err, IfOk, refl, ap, ◌∙◌, sym, subst}
+use Rattle.std.proofs.Common.{◌≡◌, ℕ, ◌+◌, ◌<◌, ◌^◌, Bool, true, false, cond, nat_lt}
+use Rattle.std.proofs.Common.{nat_le, is_some, List, [], ◌∷◌, ◌++◌, Option, Some, None}
+use Rattle.std.proofs.Common.{Result, Ok, Err, IfOk, refl, ap, ◌∙◌, sym, subst}
 use Rattle.std.proofs.Common.{arith, append-nil}
 use Rattle.std.proofs.lemmas.Bool.Decides.{nat_tests}
 use Rattle.std.proofs.lemmas.Cmp.{ranked}
 use Rattle.std.specs.Ordering.{match_ordering, nat_cmp}
 use Rattle.std.specs.declared.cmp.Ordering.{Ordering}
 use Rattle.std.specs.declared.cmp.Ordering.TheVariants.{Less, Equal, Greater}
-use Rattle.std.specs.Result.{result_ok}
 use Rattle.reg_base.specs.declared.line.Line.{Line}
 use Rattle.reg_base.specs.Results.{◌>>=◌, unless, some_or}
 use Rattle.cfg_model.specs.declared.config.Config.{Config}
@@ -33,19 +32,18 @@ use Rattle.desk_model.specs.Plans.{Meaning, Deed, Question, changes, closes, ask
 use Rattle.desk_model.specs.Meanings.{meaning_of}
 use Rattle.desk_model.specs.Clerks.{is_allowed, is_batch, is_clerk}
 use Rattle.desk_model.specs.LastRequests.{is_same, last_of, number_after, number_test, same_number}
-use Rattle.desk_model.specs.LastRequests.{lasts_with}
 use Rattle.desk_model.specs.Limits.{greatest_number, records_in}
 use Rattle.desk_model.specs.Serial.{answer_effect, deed_effect, effect_of, question_answer}
-use Rattle.desk_model.specs.Serial.{question_effect, serial, state_kept}
+use Rattle.desk_model.specs.Serial.{question_effect, state_kept}
 use Rattle.desk_model.specs.Desk.{Event, command_at, effect_at, event_of, meaning_at, next_number}
 use Rattle.desk_model.specs.Desk.{step, tests_of}
-use Rattle.desk_model.specs.Answers.{event_of_reading, event_of_request, is_blank_line, line_desk}
-use Rattle.desk_model.specs.Answers.{line_event, refusal_event}
+use Rattle.desk_model.specs.Answers.{event_of_reading, is_blank_line, line_desk}
+use Rattle.desk_model.specs.Answers.{refusal_event}
 use Rattle.desk_model.specs.Laws.{AreNumbered, Replays}
-use Rattle.desk_history.specs.Entries.{command_of, entry_text}
-use Rattle.desk_history.specs.Replays.{if_few, is_above, is_next, most_replayed_records}
+use Rattle.desk_history.specs.Entries.{command_of, commands_text}
+use Rattle.desk_history.specs.Replays.{is_above, is_next, most_replayed_records}
 use Rattle.desk_history.specs.Replays.{replay_command, replay_entry, replay_from, replayed}
-use Rattle.desk_history.specs.Histories.{AreFew, EventReplays, LineReplays, StepReplays}
+use Rattle.desk_history.specs.Histories.{AreFew, LineReplays, StepReplays}
 use Rattle.desk_history.specs.Histories.{event_entries, line_entries}
 
 -- ---- one entry behind others
@@ -197,14 +195,13 @@ accepted-passed desk r effect accepted =
     desk.serial (command_at desk r).number meaning.deed)) effect accepted
 
 module _ (read_back : (c : Command) → c.number < 2 ^ 32 → IsRequest c.request
-    → command_of (entry_text (c ∷ [])) ≡ Some c)
+    → command_of (commands_text (c ∷ [])) ≡ Some c)
     (replays : (desk : Desk) (r : Request) → Replays desk r) where
-
   -- the entry of an accepted change replays to the state that it leaves
   entry-replays : (desk : Desk) (r : Request) (effect : Effect) → IsRequest r →
       AreNumbered desk.serial → is_some (meaning_at desk r).number ≡ true →
       effect_at desk r ≡ Ok effect → AreFew (state_kept (meaning_at desk r) r effect) →
-      replay_entry desk.setting desk.serial (entry_text (command_at desk r ∷ []))
+      replay_entry desk.setting desk.serial (commands_text (command_at desk r ∷ []))
       ≡ Some (state_kept (meaning_at desk r) r effect)
   unfolding replay_entry replay_command
   entry-replays desk r effect is numbered has accepted few =
@@ -214,8 +211,12 @@ module _ (read_back : (c : Command) → c.number < 2 ^ 32 → IsRequest c.reques
       is_next-passed desk.serial.lasts meaning.clerk meaning.number r has number in
       let within : nat_le (records_in (state_kept meaning r effect).documents)
       most_replayed_records ≡ true = grind (arith, nat_tests, few) in
-      rw (read_back (command_at desk r) (command-small desk r) is, next,
-      replays desk r effect numbered accepted, within) refl
+      rw (
+        read_back (command_at desk r) (command-small desk r) is,
+        next,
+        replays desk r effect numbered accepted,
+        within,
+      ) refl
 
   -- what a request comes to replays
   pub step-replays : (desk : Desk) (r : Request) → StepReplays desk r

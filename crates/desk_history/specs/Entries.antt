@@ -7,7 +7,6 @@ use Rattle.std.specs.Option.{option_map}
 use Rattle.std.specs.Result.{result_ok}
 use Rattle.std.specs.Str.{bytes_eq}
 use Rattle.reg_base.specs.Numbers.{decimal_value, number_text}
-use Rattle.desk_words.specs.declared.request.Request.{Request}
 use Rattle.desk_words.specs.Reading.{request_of_text}
 use Rattle.desk_words.specs.RequestTexts.{request_text}
 use Rattle.desk_model.specs.State.{Command}
@@ -23,8 +22,8 @@ abbrev pub command_text : Command → List ℕ
 command_text c = number_text c.number ++ 32 ∷ (request_text c.request ++ 10 ∷ [])
 
 -- the text of an entry: the lines of its commands
-abbrev pub entry_text : List Command → List ℕ
-entry_text commands = flat_map command_text commands
+abbrev pub commands_text : List Command → List ℕ
+commands_text commands = flat_map command_text commands
 
 -- how many digits a text begins with
 abbrev pub leading_digits : List ℕ → ℕ

@@ -9,12 +9,12 @@ use Rattle.desk_model.specs.Limits.{records_in}
 use Rattle.desk_model.specs.Desk.{Event, step}
 use Rattle.desk_model.specs.Answers.{is_blank_line, line_event, line_desk}
 use Rattle.desk_model.specs.Laws.{AreNumbered}
-use Rattle.desk_history.specs.Entries.{entry_text}
+use Rattle.desk_history.specs.Entries.{commands_text}
 use Rattle.desk_history.specs.Replays.{most_replayed_records, replayed}
 
 -- the entries that an event commits
 abbrev pub event_entries : Event → List (List ℕ)
-event_entries event = map entry_text event.commits
+event_entries event = map commands_text event.commits
 
 -- the entries that a line commits: none or one
 unfoldable pub line_entries : Desk → Line → List (List ℕ)

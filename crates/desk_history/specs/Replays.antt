@@ -1,11 +1,10 @@
 -- The state that entries of the journal replay to.
 use Rattle.std.specs.Prelude.{ℕ, ◌+◌, Bool, true, false, nat_le, nat_lt, if◌then◌else◌, Option}
-use Rattle.std.specs.Prelude.{Some, None, option_and_then, List, [], ◌∷◌, Result, Ok, Err}
+use Rattle.std.specs.Prelude.{Some, None, option_and_then, List, [], ◌∷◌, Result, Ok}
 use Rattle.std.specs.Result.{result_ok}
 use Rattle.reg_base.specs.Results.{◌>>=◌, some_or}
 use Rattle.desk_model.specs.declared.last.Last.{Last}
 use Rattle.desk_model.specs.State.{Setting, State, Command, first_state}
-use Rattle.desk_model.specs.Plans.{Meaning}
 use Rattle.desk_model.specs.Meanings.{meaning_of}
 use Rattle.desk_model.specs.LastRequests.{last_of}
 use Rattle.desk_model.specs.Limits.{records_in}
@@ -38,7 +37,7 @@ replay_command setting state command =
     let meaning = meaning_of setting.config command.request in
     if is_next state.lasts meaning.clerk meaning.number
     then option_and_then (λ effect. if_few (state_kept meaning command.request effect))
-        (result_ok (serial setting state command))
+    (result_ok (serial setting state command))
     else None
 
 -- the state that an entry leaves: it is the line of one command

@@ -6,7 +6,7 @@ ghost use Rattle.reg_base.specs.Numbers.{number_text};
 ghost use Rattle.desk_words.specs.Reading.{request_of_text};
 ghost use Rattle.desk_words.specs.WellFormed.{IsRequest};
 ghost use Rattle.desk_model.specs.State.{Command as CommandOf};
-ghost use Rattle.desk_history.specs.Entries.{command_view, command_of, entry_text};
+ghost use Rattle.desk_history.specs.Entries.{command_view, command_of, commands_text};
 ghost use Rattle.desk_history.specs.Entries.{behind_digits as behind_digits_of};
 ghost use Rattle.desk_history.specs.Entries.{if_spelt as if_spelt_of};
 
@@ -23,7 +23,7 @@ pub struct Command {
 
 /// The text of the entry of a request, with the number that was drawn for its document, or 0.
 pub fn print_entry(alloc: Global, number: u32, request: &Request) -> Result<Vec<u8>, Memory>
-    ensures { IfOk result (λ text. text.items ≡ entry_text (record {
+    ensures { IfOk result (λ text. text.items ≡ commands_text (record {
       number = number;
       request = request.now;
     } ∷ [])) }

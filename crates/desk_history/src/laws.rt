@@ -4,7 +4,7 @@ ghost use Rattle.reg_base.specs.declared.line.Line.{Line};
 ghost use Rattle.desk_words.specs.declared.request.Request.{Request};
 ghost use Rattle.desk_words.specs.WellFormed.{IsRequest};
 ghost use Rattle.desk_model.specs.State.{Command, Desk};
-ghost use Rattle.desk_history.specs.Entries.{command_of, entry_text};
+ghost use Rattle.desk_history.specs.Entries.{command_of, commands_text};
 ghost use Rattle.desk_history.specs.Histories.{LineReplays, StepReplays};
 
 use desk_model::accepted_requests_replay;
@@ -13,7 +13,7 @@ use desk_words::requests_read_back;
 /// The text of an entry of one command is that command's.
 pub fn entries_read_back()
     ensures { (c : Command) → c.number < 2 ^ 32 → IsRequest c.request
-        → command_of (entry_text (c ∷ [])) ≡ Some c }
+        → command_of (commands_text (c ∷ [])) ≡ Some c }
 {
     requests_read_back();
 }

@@ -1,7 +1,7 @@
 //! The journal's entries, and the desk that they replay to.
 //!
-//! Means: `entry_text` in `specs/Entries.antt` says how the commands of a change are written, and
-//! `replayed` in `specs/Replays.antt` which state the entries of a journal leave, one after
+//! Means: `commands_text` in `specs/Entries.antt` says how the commands of a change are written,
+//! and `replayed` in `specs/Replays.antt` which state the entries of a journal leave, one after
 //! another, or which of them is the first that can't be replayed.
 //!
 //! Stands on: `desk_model` for what a command does, `desk_words` for the texts of requests.
