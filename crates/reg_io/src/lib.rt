@@ -14,8 +14,10 @@
 
 mod device;
 mod disk;
+mod disk_call;
 mod failing_calls;
 mod folder;
+mod journal_file;
 mod line;
 mod line_reader;
 mod lines;
@@ -32,11 +34,13 @@ mod window;
 
 pub use device::{Device, Failed};
 pub use disk::Disk;
+pub use disk_call::DiskCall;
 pub use failing_calls::FailingCalls;
 pub use folder::Folder;
+pub use journal_file::JournalFile;
 pub use line::{LineFault, MOST_LINE_BYTES};
 pub use lines::Lines;
-pub use memory_disk::MemoryDisk;
+pub use memory_disk::{FailingDisk, MemoryDisk};
 pub use memory_shelf::{FailingShelf, MemoryShelf};
 pub use memory_sink::{FailingSink, MemorySink};
 pub use memory_source::{FailingSource, MemorySource};
