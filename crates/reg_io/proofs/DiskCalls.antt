@@ -1,16 +1,17 @@
 -- What a crash may leave of a disk in memory, call by call.
-use Rattle.std.proofs.Common.{◌≡◌, inl, inr, ⊎_elim, ℕ, zero, suc, ◌+◌, ◌-◌, ◌<◌, ◌≤◌, min, max, Bool, true, false, List, [], ◌∷◌, ◌++◌, length, map, take, drop, Option, None, Some, IfSome, Result, Ok, Err, OnOk, OnErr, refl, sym, ◌∙◌, ap, subst, arith}
-use Rattle.std.specs.Prelude.{◌==◌, ◌&&◌, ◌⊎◌}
-use Rattle.std.proofs.lemmas.Bool.{false≢true, and_parts, and_from, eqb-true, eq-eqb, cases_lt}
+use Rattle.std.proofs.Common.{◌≡◌, inl, inr, ⊎_elim, ℕ, zero, suc, ◌+◌, ◌<◌, ◌≤◌, min, max, true, List, [], ◌∷◌, ◌++◌, length, map, take, drop, Option, None, Some, Result, Ok, Err, OnOk, OnErr, refl, sym, ◌∙◌, ap, subst, arith}
+use Rattle.std.specs.Prelude.{◌==◌, ◌⊎◌}
+use Rattle.std.proofs.lemmas.Bool.{false≢true, and_parts, and_from, eqb-true, eq-eqb}
 use Rattle.std.proofs.lemmas.List.{length-take, length-drop, length-append, take_all, drop_all}
 use Rattle.reg_io.specs.Disks.{After, CutBack, DiskState, IsSure, Leaves, MayLeave, Torn, put_at}
 use Rattle.reg_io.specs.DiskCalls.{History, IsImage, LeftBefore, LeftSince, Stage, after_call, after_calls, fits, history_of, loosened, loosened_stage, state_of, suits, sure_of}
+use Rattle.reg_io.specs.Crashes.{IsValid}
 use Rattle.reg_io.specs.declared.disk_call.DiskCall.{DiskCall}
 use Rattle.reg_io.specs.declared.disk_call.DiskCall.TheVariants.{Wrote, FailedWrite, Cut, FailedCut, Synced}
 
 -- ---- one call more
 
-after_calls-push : (calls : List DiskCall) (call : DiskCall) (h : History)
+pub after_calls-push : (calls : List DiskCall) (call : DiskCall) (h : History)
     → after_calls (calls ++ call ∷ []) h ≡ after_call call (after_calls calls h)
 after_calls-push [] call h = refl
 after_calls-push (c ∷ calls) call h = after_calls-push calls call (after_call c h)
@@ -45,7 +46,7 @@ mended zero (suc count) (Some s ∷ sure) (b ∷ image) = s ∷ mended zero coun
 mended (suc place) count [] (b ∷ image) = []
 mended (suc place) count (s ∷ sure) (b ∷ image) = b ∷ mended place count sure image
 
-fits_length : (sure : List (Option ℕ)) (image : List ℕ) → fits sure image ≡ true
+pub fits_length : (sure : List (Option ℕ)) (image : List ℕ) → fits sure image ≡ true
     → length image ≤ length sure
 fits_length sure [] fit = omega arith
 fits_length [] (b ∷ image) fit = absurd (false≢true fit)
@@ -134,12 +135,6 @@ mend (suc place) count (s ∷ sure) (b ∷ image) within fit =
 
 -- ---- a stage tells what a read gives among what a crash may leave
 
-pub record IsValid (stage : Stage) : Type 0 where
-  pub low : stage.least ≤ length stage.content
-  pub fitting : fits stage.bytes stage.content ≡ true
-  pub confirmed_low : stage.least ≤ length stage.confirmed
-  pub confirmed_fitting : fits stage.bytes stage.confirmed ≡ true
-
 fits_drop : (n : ℕ) (sure : List (Option ℕ)) (image : List ℕ) → fits sure image ≡ true
     → fits (drop n sure) (drop n image) ≡ true
 fits_drop zero sure image fit = fit
@@ -148,7 +143,7 @@ fits_drop (suc n) [] (b ∷ image) fit = absurd (false≢true fit)
 fits_drop (suc n) (s ∷ sure) (b ∷ image) fit =
     fits_drop n sure image (and_parts (suits s b) _ fit).1
 
-fits_take : (n : ℕ) (sure : List (Option ℕ)) (image : List ℕ) → fits sure image ≡ true
+pub fits_take : (n : ℕ) (sure : List (Option ℕ)) (image : List ℕ) → fits sure image ≡ true
     → fits sure (take n image) ≡ true
 fits_take zero sure image fit = refl
 fits_take (suc n) sure [] fit = refl
@@ -195,7 +190,7 @@ length-put_at : (place : ℕ) (bytes content : List ℕ) → place ≤ length co
     → length content ≤ length (put_at place bytes content)
 length-put_at place bytes content within = simp (length-append, length-take, length-drop) (omega arith)
 
-valid_sure : (content : List ℕ) → IsValid (sure_of content)
+pub valid_sure : (content : List ℕ) → IsValid (sure_of content)
 valid_sure content = record {
   low = omega arith;
   fitting = fits_sure content;
@@ -203,7 +198,7 @@ valid_sure content = record {
   confirmed_fitting = fits_sure content;
 }
 
-valid_call : (call : DiskCall) (h : History) → IsValid h.now → IsValid (after_call call h).now
+pub valid_call : (call : DiskCall) (h : History) → IsValid h.now → IsValid (after_call call h).now
 valid_call (Wrote place bytes) h is = record {
   low = omega (
     arith,
@@ -254,7 +249,7 @@ left_le k [] image left = absurd left
 left_le k (s ∷ before) image (inl here) = omega (arith, here.0)
 left_le k (s ∷ before) image (inr there) = omega (arith, left_le k before image there)
 
-left_now : (h : History) (image : List ℕ) → IsImage h.now image → MayLeave (of h) image
+pub left_now : (h : History) (image : List ℕ) → IsImage h.now image → MayLeave (of h) image
 left_now h image is = (omega arith, inl (omega arith, is))
 
 -- a stage in the place of the one that was now

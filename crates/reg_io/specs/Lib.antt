@@ -1,4 +1,5 @@
 pub mod Counts
+pub mod Crashes
 pub mod DiskCalls
 pub mod Disks
 pub mod LineReaders

@@ -12,6 +12,7 @@
 //! refused.
 #![tactic(auto)]
 
+mod crash;
 mod device;
 mod disk;
 mod disk_call;
@@ -32,6 +33,7 @@ mod standard;
 mod told_line;
 mod window;
 
+pub use crash::CrashImage;
 pub use device::{Device, Failed};
 pub use disk::Disk;
 pub use disk_call::DiskCall;

@@ -18,9 +18,9 @@ use std::alloc::{AllocError, Global};
 pub struct MemoryDisk {
     pub bytes: Vec<u8>,
     pub faults: u64,
-    alloc: Global,
-    first: List<u8>,
-    calls: Vec<DiskCall>,
+    pub(crate) alloc: Global,
+    pub(crate) first: List<u8>,
+    pub(crate) calls: Vec<DiskCall>,
     ghost recorded: { (history_of first calls.items).now.content ≡ bytes.items },
 }
 

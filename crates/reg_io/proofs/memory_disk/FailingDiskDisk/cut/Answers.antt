@@ -1,5 +1,5 @@
-use Rattle.std.proofs.Common.{◌≡◌, ◌∙◌, ◌++◌, [], ◌∷◌, inl, inr, ⊎_elim, List, ℕ, Some, take, ap, sym, subst, refl, arith, rules, length, vec_len}
-use Rattle.reg_io.specs.DiskCalls.{LeftSince, after_call, history_of}
+use Rattle.std.proofs.Common.{◌∙◌, inl, ⊎_elim, ap, subst, length}
+use Rattle.reg_io.specs.DiskCalls.{LeftSince, history_of}
 use Rattle.reg_io.specs.declared.disk_call.DiskCall.TheVariants.{FailedCut}
 use Rattle.reg_io.proofs.DiskCalls.{history-push, kept_or_not, next, shown, valid, failed_cut}
 use Rattle.reg_io.proofs.memory_disk.FailingDiskDisk.cut.Goals as goal

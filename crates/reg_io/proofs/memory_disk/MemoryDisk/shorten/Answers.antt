@@ -1,5 +1,4 @@
-use Rattle.std.proofs.Common.{◌≡◌, ◌∙◌, ◌++◌, [], ◌∷◌, inl, inr, ⊎_elim, List, ℕ, Some, take, ap, sym, refl, arith, rules, length, vec_len}
-use Rattle.reg_io.specs.DiskCalls.{LeftSince, after_call, history_of}
+use Rattle.std.proofs.Common.{◌∙◌, take, ap, sym, refl}
 use Rattle.reg_io.specs.declared.disk_call.DiskCall.TheVariants.{Cut}
 use Rattle.reg_io.proofs.DiskCalls.{next}
 use Rattle.reg_io.proofs.memory_disk.MemoryDisk.shorten.Goals as goal

@@ -1,4 +1,4 @@
-use Rattle.std.proofs.Common.{◌≡◌, ◌∙◌, ◌++◌, [], ◌∷◌, ⊎_elim, List, ℕ, ap, sym, refl, arith, length}
+use Rattle.std.proofs.Common.{◌∙◌, ⊎_elim, ap, sym, refl}
 use Rattle.reg_io.specs.Disks.{put_at}
 use Rattle.reg_io.specs.DiskCalls.{history_of}
 use Rattle.reg_io.specs.declared.disk_call.DiskCall.TheVariants.{Wrote}

@@ -1,7 +1,6 @@
-use Rattle.std.proofs.Common.{◌≡◌, ◌∙◌, ◌++◌, [], ◌∷◌, inl, inr, ⊎_elim, List, ℕ, Some, take, ap, sym, refl, arith, rules, length, vec_len}
-use Rattle.reg_io.specs.DiskCalls.{LeftSince, after_call, history_of}
+use Rattle.std.proofs.Common.{◌∙◌, ap, sym, arith, length}
+use Rattle.reg_io.specs.DiskCalls.{history_of}
 use Rattle.reg_io.specs.declared.disk_call.DiskCall.TheVariants.{Synced}
-use Rattle.std.proofs.Common.{◌+◌}
 use Rattle.reg_io.proofs.DiskCalls.{history-push, next, synced_leaves, synced_only}
 use Rattle.reg_io.proofs.memory_disk.MemoryDiskDisk.sync.Goals as goal
 

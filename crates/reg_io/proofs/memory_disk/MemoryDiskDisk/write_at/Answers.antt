@@ -1,5 +1,5 @@
-use Rattle.std.proofs.Common.{◌≡◌, ◌∙◌, ◌++◌, [], ◌∷◌, inl, inr, ⊎_elim, List, ℕ, Some, take, ap, sym, refl, arith, rules, length, vec_len}
-use Rattle.reg_io.specs.DiskCalls.{LeftSince, after_call, history_of}
+use Rattle.std.proofs.Common.{ap, length}
+use Rattle.reg_io.specs.DiskCalls.{history_of}
 use Rattle.reg_io.specs.declared.disk_call.DiskCall.TheVariants.{Wrote}
 use Rattle.reg_io.proofs.DiskCalls.{next, shown, valid, wrote}
 use Rattle.reg_io.proofs.memory_disk.MemoryDiskDisk.write_at.Goals as goal
