@@ -1,4 +1,5 @@
 //! The file that a journal is kept in.
+ghost use Rattle.std.specs.Prelude.{◌≡◌};
 ghost use Rattle.reg_io.specs.Counts.{HasCause};
 ghost use Rattle.reg_io.specs.Disks.{untold};
 
@@ -9,7 +10,8 @@ use std::io;
 use std::os::unix::fs::FileExt;
 use std::rt::Files;
 
-/// A file of a runtime, opened at the first call. What it holds is not told.
+/// A file of a runtime, opened at the first call, and made where there is none. What it holds is not
+/// told.
 #[derive(Drop)]
 pub struct JournalFile<'a, R: Files> {
     files: &'a R,
@@ -18,14 +20,26 @@ pub struct JournalFile<'a, R: Files> {
     faults: u64,
 }
 
-impl<'a, R: Files> JournalFile<'a, R> {
-    pub fn new(files: &'a R, name: &'a str) -> JournalFile<'a, R> {
+impl<'a, R: Files> JournalFile<'a, R>
+where
+    R::File: FileExt,
+{
+    pub fn new(files: &'a R, name: &'a str) -> JournalFile<'a, R>
+        ensures { ⟦<JournalFile<'a, R> as Disk>⟧.faults result ≡ 0 }
+    {
         JournalFile {
             files,
             name,
             file: None,
             faults: 0,
         }
+    }
+
+    /// How many calls failed.
+    pub fn faults(&self) -> u64
+        ensures { result ≡ ⟦<JournalFile<'a, R> as Disk>⟧.faults self.now }
+    {
+        self.faults
     }
 }
 

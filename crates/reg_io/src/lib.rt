@@ -1,15 +1,17 @@
 //! The outside of the desk: what it reads, writes and keeps files on, and the lines of its input.
 //!
-//! Means: a source is the bytes left, a sink the bytes taken, a shelf its files, where they are
-//! told, and each has a count of faults; `lines_of` in `specs/Lines.antt` cuts bytes into lines.
+//! Means: a source is the bytes left, a sink the bytes taken, a shelf its files, a disk its bytes
+//! and what a crash may leave of them, where they are told, and each has a count of faults;
+//! `lines_of` in `specs/Lines.antt` cuts bytes into lines.
 //!
 //! Stands on: `reg_base` for lists and texts.
 //!
 //! Promises: counts never fall, and a call fails only where its count rose; `Lines` gives the lines
-//! of the bytes however reads cut them; `write_all` writes all bytes, or their front and a fault.
+//! of the bytes however reads cut them; `write_all` writes all bytes, or their front and a fault;
+//! a disk in memory is a disk, at every moment, by the record of its calls.
 //!
-//! Leaves open: what real files and streams hold, what a crash leaves of a disk, when memory is
-//! refused.
+//! Leaves open: what real files and streams hold, what a crash leaves of a real disk, when memory
+//! is refused.
 #![tactic(auto)]
 
 mod crash;
