@@ -1,14 +1,13 @@
 -- From what stands behind a gate to the entries of a journal.
-use Rattle.std.proofs.Common.{◌≡◌, ◌⊎◌, inl, inr, ⊎_elim, ℕ, ◌+◌, ◌-◌, ◌<◌, ◌≤◌, false, List, [], ◌∷◌, ◌++◌, length, Option, None, Some, IfSome, Result, Ok, Err, IsErrAnd, refl, sym, ◌∙◌, ap, subst, arith}
+use Rattle.std.proofs.Common.{◌≡◌, inl, inr, ⊎_elim, ℕ, ◌+◌, ◌<◌, List, [], ◌∷◌, ◌++◌, length, Option, None, Some, IfSome, Result, Ok, Err, IsErrAnd, sym, ◌∙◌, ap, subst, arith}
 use Rattle.std.specs.Option.{option_map}
-use Rattle.std.proofs.lemmas.Option.{same_Some}
-use Rattle.reg_io.specs.Disks.{DiskState, IsSure, MayLeave, NoneIsLater}
+use Rattle.reg_io.specs.Disks.{DiskState, IsSure}
 use Rattle.post_journal.specs.Gates.{IsBehindGate}
 use Rattle.post_journal.specs.Images.{behind_gate, entries_of, image_of, with_gate}
 use Rattle.post_journal.specs.Journals.{Fits, Grows, GrowsBy, HasAll, HasSome, RunsTo, ShowsOnly, Stands}
-use Rattle.post_journal.proofs.ForAbove.{all_some, all_same, none_more, grows_by}
+use Rattle.post_journal.proofs.ForAbove.{none_more, grows_by}
 use Rattle.post_journal.proofs.Gates.{ends_at, gate_image, opened_image, torn_behind}
-use Rattle.post_journal.proofs.Shows.{if_some, shows_by}
+use Rattle.post_journal.proofs.Shows.{shows_by}
 
 -- the last gate byte stands in the file
 pub gate_within : (o : Option (List ℕ)) (end : ℕ) → IfSome o (RunsTo end)

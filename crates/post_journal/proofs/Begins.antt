@@ -1,14 +1,13 @@
 -- What a file is while it is begun.
-use Rattle.std.proofs.Common.{◌≡◌, ◌⊎◌, inl, inr, ℕ, ◌+◌, ◌≤◌, Bool, true, false, List, [], ◌∷◌, ◌++◌, length, take, drop, Option, None, Some, IfSome, Result, Ok, Err, OnOk, ⊎_elim, ◌<◌, refl, sym, ◌∙◌, ap, subst, arith}
-use Rattle.std.specs.Prelude.{codes, nat_le, not, ◌&&◌, ◌||◌, ◌==◌}
+use Rattle.std.proofs.Common.{◌≡◌, inl, inr, ℕ, ◌≤◌, Bool, true, false, List, [], ◌∷◌, ◌++◌, length, drop, Option, None, Some, IfSome, Result, Ok, Err, OnOk, ◌<◌, refl, sym, ◌∙◌, ap, subst, arith}
+use Rattle.std.specs.Prelude.{codes, not}
 use Rattle.std.proofs.lemmas.Bool.{and_from, or_left, or_right, cases_eq, le-leb, ne_eqb}
 use Rattle.std.proofs.lemmas.List.{drop_all}
 use Rattle.std.specs.Option.{option_map}
-use Rattle.std.proofs.lemmas.Option.{same_Some}
 use Rattle.reg_io.specs.Disks.{DiskState, IsSure, Torn, put_at}
 use Rattle.post_journal.specs.Gates.{HasNoEntries, IsBehindGate, IsClosedFile, IsTornPut}
 use Rattle.post_journal.specs.Journals.{RunsTo, Stands}
-use Rattle.post_journal.specs.Images.{Image, entries_of, fresh, holds, image_by, image_of, is_begun, is_fresh, is_open, run_from, with_gate}
+use Rattle.post_journal.specs.Images.{entries_of, fresh, holds, image_by, image_of, is_begun, is_fresh, is_open, run_from, with_gate}
 use Rattle.post_journal.proofs.Gates.{image_is, open_by}
 
 -- what stands behind the gate byte of the first entry

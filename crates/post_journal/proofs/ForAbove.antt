@@ -1,11 +1,11 @@
 -- What the crates above need: runs of a journal, one behind another.
-use Rattle.std.proofs.Common.{◌≡◌, ◌⊎◌, inl, inr, ℕ, zero, suc, ◌+◌, ◌<◌, ◌≤◌, Bool, true, false, List, [], ◌∷◌, ◌++◌, length, take, Option, None, Some, IfSome, refl, sym, ◌∙◌, ap, subst, arith, append_assoc, append-nil, length-append, ⊎_elim}
+use Rattle.std.proofs.Common.{◌≡◌, inl, ℕ, zero, suc, ◌+◌, List, [], ◌∷◌, ◌++◌, length, take, Option, None, Some, IfSome, refl, sym, ◌∙◌, ap, subst, arith, append_assoc, append-nil, length-append, ⊎_elim}
 use Rattle.std.specs.Option.{is_some, option_map}
 use Rattle.std.proofs.lemmas.Bool.{false≢true}
 use Rattle.std.proofs.lemmas.Option.{same_Some}
 use Rattle.std.proofs.Math.Seq.{take-append-add}
 use Rattle.std.proofs.lemmas.List.{take-append-le}
-use Rattle.reg_io.specs.Disks.{DiskState, IsSure, Leaves, MayLeave, NoneIsLater}
+use Rattle.reg_io.specs.Disks.{DiskState, IsSure, MayLeave, NoneIsLater}
 use Rattle.post_journal.specs.Images.{entries_of, image_of}
 use Rattle.post_journal.specs.Journals.{Grows, HasAll, HasSome, Keeps, ShowsOnly}
 use Rattle.post_journal.proofs.Shows.{if_some, then, weaker}

@@ -1,11 +1,11 @@
 -- What a disk holds, and what a crash may leave, while bytes are written and a gate is opened.
-use Rattle.std.proofs.Common.{◌≡◌, ◌⊎◌, inl, inr, ⊎_elim, ℕ, ◌+◌, ◌-◌, ◌<◌, ◌≤◌, List, [], ◌∷◌, ◌++◌, length, get_or, take, drop, Option, None, Some, IfSome, refl, sym, ◌∙◌, ap, subst, arith, length-append, length-take, take-append-drop}
+use Rattle.std.proofs.Common.{◌≡◌, inl, inr, ⊎_elim, ℕ, ◌+◌, ◌<◌, ◌≤◌, List, [], ◌∷◌, ◌++◌, length, get_or, take, drop, Option, None, Some, IfSome, refl, sym, ◌∙◌, ap, subst, arith, length-append, take-append-drop}
 use Rattle.std.specs.Option.{is_some, option_map}
 use Rattle.std.proofs.lemmas.Option.{same_Some}
 use Rattle.std.proofs.lemmas.List.{drop_at, drop_more, drop-drop, length-drop, take_at, take-take, take-append-le, length-take-le}
 use Rattle.reg_io.specs.Disks.{After, DiskState, IsSure, IsWithin, Leaves, MayLeave, Torn, put_at}
 use Rattle.post_journal.specs.Images.{with_gate}
-use Rattle.post_journal.specs.Gates.{HasGate, IsBehindGate, IsTornPut}
+use Rattle.post_journal.specs.Gates.{IsBehindGate, IsTornPut}
 use Rattle.post_journal.specs.Journals.{ShowsOnly}
 use Rattle.post_journal.proofs.Shows.{if_some, then, weaker}
 

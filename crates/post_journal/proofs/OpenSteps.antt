@@ -1,12 +1,11 @@
 -- From how a file begins to what it is.
-use Rattle.std.proofs.Common.{◌≡◌, ◌⊎◌, inl, inr, ⊎_elim, ℕ, zero, suc, ◌+◌, ◌<◌, ◌≤◌, Bool, true, false, List, [], ◌∷◌, ◌++◌, length, map, take, drop, Option, None, Some, IfSome, Result, Ok, Err, refl, sym, ◌∙◌, ap, subst, arith}
-use Rattle.std.specs.Prelude.{nat_le, not, ◌&&◌, ◌||◌, ◌==◌, if◌then◌else◌}
-use Rattle.std.proofs.lemmas.Option.{same_Some}
-use Rattle.std.proofs.lemmas.Bool.{false≢true, true≢false, and_parts, or_cases, or_parts, eqb-true, leb-true, not-true, lt-leb}
-use Rattle.reg_io.specs.Disks.{DiskState, IsSure}
-use Rattle.post_journal.specs.Images.{Image, bad_entry, entries_of, fresh, holds, image_by, image_of, is_begun, is_fresh, is_open, not_a_journal, run_from}
+use Rattle.std.proofs.Common.{◌≡◌, ◌⊎◌, inl, inr, ⊎_elim, ℕ, ◌≤◌, Bool, true, false, List, [], ◌∷◌, length, drop, Option, None, Some, IfSome, Ok, Err, refl, sym, ◌∙◌, ap, subst, arith}
+use Rattle.std.specs.Prelude.{nat_le, ◌==◌, if◌then◌else◌}
+use Rattle.std.proofs.lemmas.Bool.{true≢false, and_parts, or_cases, eqb-true, leb-true, not-true, lt-leb}
+use Rattle.reg_io.specs.Disks.{DiskState}
+use Rattle.post_journal.specs.Images.{entries_of, fresh, image_by, image_of, is_begun, is_fresh, is_open, not_a_journal, run_from}
 use Rattle.post_journal.specs.Gates.{HasNoEntries, IsClosedFile, IsContent, IsEmptyJournal}
-use Rattle.post_journal.specs.Journals.{HasAll, Keeps, RunsTo, ShowsOnly, Stands}
+use Rattle.post_journal.specs.Journals.{HasAll, Keeps, RunsTo, ShowsOnly}
 use Rattle.post_journal.specs.Openings.{EndsRun, Opens, beginning_of, closes_first, payloads}
 use Rattle.post_journal.specs.declared.beginning.Beginning.{Beginning}
 use Rattle.post_journal.specs.declared.beginning.Beginning.TheVariants.{Empty, Fresh, Begun, Other}

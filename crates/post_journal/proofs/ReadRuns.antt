@@ -1,8 +1,8 @@
 -- A run of entries, read one by one.
-use Rattle.std.proofs.Common.{◌≡◌, ◌⊎◌, min, inl, inr, ℕ, zero, suc, ◌+◌, ◌-◌, ◌<◌, ◌≤◌, Bool, true, false, List, [], ◌∷◌, ◌++◌, length, map, take, drop, Option, None, Some, IfSome, Result, Ok, Err, IsErr, IsErrAnd, refl, sym, ◌∙◌, ap, subst, arith, length-drop}
+use Rattle.std.proofs.Common.{◌≡◌, ◌⊎◌, min, inl, inr, ℕ, zero, suc, ◌+◌, ◌-◌, ◌<◌, ◌≤◌, Bool, true, false, List, [], ◌∷◌, ◌++◌, length, take, drop, Option, None, Some, IfSome, Result, Ok, Err, IsErr, IsErrAnd, refl, sym, ◌∙◌, ap, subst, arith, length-drop}
 use Rattle.std.proofs.lemmas.Bool.{false≢true}
 use Rattle.std.proofs.lemmas.List.{append-nil, drop-drop, map-append, take_at, take_min}
-use Rattle.post_journal.specs.Images.{Image, bad_entry, end_of_places, journal_length, entry_then, gate_then, holds, is_open, is_whole, payload_of, run_from, told_length, with_entry}
+use Rattle.post_journal.specs.Images.{Image, bad_entry, journal_length, entry_then, gate_then, holds, is_open, is_whole, payload_of, run_from, told_length, with_entry}
 use Rattle.post_journal.specs.Openings.{EndsRun, FindsEntry, IsEntryAt, RunIsLong, beginning_of, payloads}
 use Rattle.post_journal.specs.declared.beginning.Beginning.{Beginning}
 use Rattle.post_journal.specs.declared.fault.OpenFault.{OpenFault}

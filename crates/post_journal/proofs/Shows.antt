@@ -1,7 +1,7 @@
 -- What may be found on a disk, call after call.
-use Rattle.std.proofs.Common.{◌≡◌, ◌⊎◌, inl, inr, ⊎_elim, ℕ, ◌≤◌, List, Option, None, Some, IfSome, refl, sym, ◌∙◌, ap, subst, arith}
+use Rattle.std.proofs.Common.{◌≡◌, inl, inr, ⊎_elim, ℕ, ◌≤◌, List, Option, None, Some, IfSome, sym, ◌∙◌, ap, subst, arith}
 use Rattle.std.specs.Option.{is_some}
-use Rattle.reg_io.specs.Disks.{DiskState, IsSure, Leaves, MayLeave, Stays}
+use Rattle.reg_io.specs.Disks.{DiskState, IsSure, Leaves, Stays}
 use Rattle.post_journal.specs.Gates.{IsContent}
 use Rattle.post_journal.specs.Journals.{ShowsOnly}
 

@@ -1,4 +1,4 @@
-use Rattle.std.proofs.Common.{◌≡◌, ◌∙◌, arith, length-take}
+use Rattle.std.proofs.Common.{arith, length-take}
 use Rattle.post_journal.proofs.ReadRuns.{front_told, kind_told}
 use Rattle.post_journal.proofs.beginning.read_beginning.Goals as goal
 

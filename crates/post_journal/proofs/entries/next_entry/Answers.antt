@@ -1,4 +1,4 @@
-use Rattle.std.proofs.Common.{◌≡◌, ◌∙◌, arith, length-take}
+use Rattle.std.proofs.Common.{arith, length-take}
 use Rattle.post_journal.proofs.ReadRuns.{finds_told, head_told}
 use Rattle.post_journal.proofs.entries.next_entry.Goals as goal
 

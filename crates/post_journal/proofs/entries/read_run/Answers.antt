@@ -1,4 +1,4 @@
-use Rattle.std.proofs.Common.{◌≡◌, ◌∙◌, arith}
+use Rattle.std.proofs.Common.{◌∙◌, arith}
 use Rattle.post_journal.proofs.ReadRuns.{ended, is_fault, longer, one_more_read, stopped}
 use Rattle.post_journal.proofs.Shows.{stays_trans}
 use Rattle.post_journal.proofs.entries.read_run.Goals as goal

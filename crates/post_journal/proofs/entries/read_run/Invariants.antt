@@ -1,4 +1,4 @@
-use Rattle.std.proofs.Common.{◌≡◌, ◌<◌, ◌≤◌, ◌-◌, ◌^◌, IfSome}
+use Rattle.std.proofs.Common.{◌≡◌, ◌<◌, ◌≤◌, ◌-◌, IfSome}
 use Rattle.reg_io.specs.Disks.{Stays}
 use Rattle.post_journal.specs.Openings.{RunIsLong}
 use Rattle.post_journal.proofs.ReadRuns.{IsRead}

@@ -1,4 +1,4 @@
-use Rattle.post_journal.proofs.GateSteps.{first_put, gate_opened, second_put}
+use Rattle.post_journal.proofs.GateSteps.{first_put, second_put}
 use Rattle.post_journal.proofs.Shows.{shows_by, shows_more}
 use Rattle.post_journal.proofs.gate.open_behind.Goals as goal
 

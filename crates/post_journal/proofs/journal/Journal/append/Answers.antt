@@ -1,5 +1,4 @@
-use Rattle.std.proofs.Common.{◌≡◌, ◌∙◌, ◌+◌, ◌-◌, ℕ, ap, subst, sym, refl, arith}
-use Rattle.reg_io.specs.Disks.{DiskState}
+use Rattle.std.proofs.Common.{◌∙◌, ℕ, ap, subst, sym, refl, arith}
 use Rattle.post_journal.specs.Images.{behind_gate}
 use Rattle.post_journal.specs.Journals.{Fits, JournalState, Stands}
 use Rattle.post_journal.proofs.AppendSteps.{cut_off, gate_within, grows_appended, shows_append, stands_appended}

@@ -1,8 +1,8 @@
-use Rattle.std.proofs.Common.{◌≡◌, ◌∙◌, inl, inr}
+use Rattle.std.proofs.Common.{◌∙◌, inl, inr}
 use Rattle.post_journal.specs.declared.journal.Journal.{Journal}
 use Rattle.post_journal.proofs.ReadRuns.{is_fault}
-use Rattle.post_journal.proofs.OpenSteps.{begun_run, is_closed, is_new, is_small, keeps_begun, keeps_looked, not_begun, opens_bad, opens_empty, opens_run, seen_kind}
-use Rattle.post_journal.proofs.Shows.{shows_stays, sure_stays}
+use Rattle.post_journal.proofs.OpenSteps.{begun_run, is_closed, is_new, is_small, keeps_begun, not_begun, opens_bad, opens_empty, opens_run, seen_kind}
+use Rattle.post_journal.proofs.Shows.{sure_stays}
 use Rattle.post_journal.proofs.journal.Journal.open.Goals as goal
 
 pub begin_empty-requires-clause-small : goal.begin_empty-requires-clause-small
@@ -99,10 +99,12 @@ returns-in_ok-end-in-Begun-clause-stands g c =
     let seen = c.in_ok-beginning in
     let kind = seen_kind o seen.beginning seen.len seen.ensures.seen in
     let run = begun_run o seen.beginning kind c.in-Begun.is in
-    let read = c.in_ok-end-in-Begun in
-    (c.at-in-Begun.ensures.usable, rw c.at-in-Begun.ensures.end (record {
-      run = rw (c.read_run.ensures.stays.content ∙ c.look.ensures.content)
-          (opens_run o c.at-in-Begun.result read.end read.entries run
-          (rw c.look.ensures.content at read.ensures.run)).1;
-      sure = sure_stays c.read_run.ensures.stays c.in_ok-beginning.ensures.sure;
-    }))
+    let read = c.in_ok-end-in-Begun in (
+      c.at-in-Begun.ensures.usable,
+      rw c.at-in-Begun.ensures.end (record {
+        run = rw (c.read_run.ensures.stays.content ∙ c.look.ensures.content)
+            (opens_run o c.at-in-Begun.result read.end read.entries run
+            (rw c.look.ensures.content at read.ensures.run)).1;
+        sure = sure_stays c.read_run.ensures.stays c.in_ok-beginning.ensures.sure;
+      }),
+    )
