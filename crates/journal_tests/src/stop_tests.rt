@@ -60,19 +60,18 @@ fn appends<D: Disk>(alloc: Global, journal: &mut Journal, disk: &mut D) -> Resul
     }
 }
 
-// The calls of an append that fail, from the first on; then whether it ends well, and how many
-// entries each image of a crash has.
+// Which call fails, and then whether an append ends well, and how many entries each image of a
+// crash has. Opening a journal without entries makes four calls, and an append the next four.
 const STOPS: [(u64, bool, [usize; 3]); 5] = [
-    (1, false, [0, 0, 0]),
-    (2, false, [0, 0, 0]),
-    (3, false, [0, 0, 0]),
-    (4, false, [1, 0, 0]),
-    (5, true, [1, 1, 1]),
+    (5, false, [0, 0, 0]),
+    (6, false, [0, 0, 0]),
+    (7, false, [0, 0, 0]),
+    (8, false, [1, 0, 0]),
+    (9, true, [1, 1, 1]),
 ];
 
-// Opening a journal without entries makes four calls.
 fn append_stops(alloc: Global, row: &(u64, bool, [usize; 3])) -> Result<bool, OpenFault> {
-    let mut disk = failing_disk(alloc, &BEGUN, row.0 + 4)?;
+    let mut disk = failing_disk(alloc, &BEGUN, row.0)?;
     let (mut journal, _entries) = Journal::open(alloc, &mut disk)?;
     let done = appends(alloc, &mut journal, &mut disk)?;
     Ok(done == row.1 && left(alloc, &disk.disk)? == row.2)
