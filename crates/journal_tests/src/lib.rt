@@ -17,4 +17,6 @@ mod opening_tests;
 #[cfg(test)]
 mod rows;
 #[cfg(test)]
+mod series_tests;
+#[cfg(test)]
 mod stop_tests;

@@ -7,7 +7,7 @@ use Rattle.std.specs.Option.{option_map}
 use Rattle.reg_io.specs.Disks.{DiskState, IsSure, Torn, put_at}
 use Rattle.post_journal.specs.Gates.{HasNoEntries, IsBehindGate, IsClosedFile, IsTornPut}
 use Rattle.post_journal.specs.Journals.{RunsTo, Stands}
-use Rattle.post_journal.specs.Images.{entries_of, fresh, holds, image_by, image_of, is_begun, is_fresh, is_open, run_from, with_gate}
+use Rattle.post_journal.specs.Images.{entries_held, fresh, holds, image_by, image_of, is_begun, is_fresh, is_open, run_from, with_gate}
 use Rattle.post_journal.proofs.Gates.{image_is, open_by}
 
 -- what stands behind the gate byte of the first entry
@@ -42,13 +42,13 @@ pub gate_begun : (c : List ℕ) → length c ≤ 23 → image_of (with_gate 0 1 
 gate_begun c small = ap image_of (with_first c 1 small) ∙ begun_whole
 
 pub gate_fresh : (c : List ℕ) (gate : ℕ) → length c ≤ 23
-    → entries_of (image_of (with_gate 0 gate first_behind c)) ≡ Some []
+    → entries_held (image_of (with_gate 0 gate first_behind c)) ≡ Some []
 gate_fresh c gate small = elim (cases_eq gate 1) [
   | inl opened ↦
-      ap (λ (g : ℕ). entries_of (image_of (with_gate 0 g first_behind c))) opened
-      ∙ ap entries_of (gate_begun c small)
+      ap (λ (g : ℕ). entries_held (image_of (with_gate 0 g first_behind c))) opened
+      ∙ ap entries_held (gate_begun c small)
   | inr shut ↦
-      ap entries_of (ap image_of (with_first c gate small)
+      ap entries_held (ap image_of (with_first c gate small)
       ∙ closed_fresh (gate ∷ first_behind) (omega arith) (ne_eqb gate 1 shut))
 ]
 
@@ -57,9 +57,9 @@ pub begin_image : (o : Option (List ℕ)) → IfSome o IsClosedFile → (image :
     → IsBehindGate 0 first_behind o image → IfSome o (λ _. HasNoEntries image)
 begin_image None closed image is = tt
 begin_image (Some c) closed image (inl torn) =
-    ap entries_of (torn_fresh c image closed.some closed.small closed.shut torn)
+    ap entries_held (torn_fresh c image closed.some closed.small closed.shut torn)
 begin_image (Some c) closed image (inr gate) =
-    ap (λ (i : List ℕ). entries_of (image_of i)) gate.1 ∙ gate_fresh c gate.0 closed.small
+    ap (λ (i : List ℕ). entries_held (image_of i)) gate.1 ∙ gate_fresh c gate.0 closed.small
 
 pub begin_run : (o new : Option (List ℕ)) → IfSome o IsClosedFile
     → new ≡ option_map (with_gate 0 1 first_behind) o → IfSome new (RunsTo 22)
@@ -87,7 +87,7 @@ pub small_torn : (o : Option (List ℕ)) → IfSome o (λ c. length c ≤ 1) →
 small_torn None small image torn = tt
 small_torn (Some c) small image torn =
     let limit = torn.no_longer in
-    ap entries_of (small_fresh image (omega (arith, small, limit)))
+    ap entries_held (small_fresh image (omega (arith, small, limit)))
 
 closed_zero : (c : List ℕ) → length c ≤ 1 → put_at 0 (0 ∷ []) c ≡ 0 ∷ []
 closed_zero c small = ap (λ (l : List ℕ). 0 ∷ l) (drop_all 1 c small)

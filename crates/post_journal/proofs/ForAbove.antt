@@ -6,7 +6,7 @@ use Rattle.std.proofs.lemmas.Option.{same_Some}
 use Rattle.std.proofs.Math.Seq.{take-append-add}
 use Rattle.std.proofs.lemmas.List.{take-append-le}
 use Rattle.reg_io.specs.Disks.{DiskState, IsSure, MayLeave, NoneIsLater}
-use Rattle.post_journal.specs.Images.{entries_of, image_of}
+use Rattle.post_journal.specs.Images.{entries_held, image_of}
 use Rattle.post_journal.specs.Journals.{Grows, HasAll, HasSome, Keeps, ShowsOnly}
 use Rattle.post_journal.proofs.Shows.{if_some, then, weaker}
 
@@ -28,16 +28,16 @@ pub all_more : (first mid : Option (List ℕ)) (xs ys : List (List ℕ)) (image 
 all_more None mid xs ys image told all more = tt
 all_more (Some c) None xs ys image told all more = absurd (false≢true told)
 all_more (Some c) (Some d) xs ys image told all more =
-    more ∙ ap (option_map (λ es. es ++ ys)) all ∙ more_entries (entries_of (image_of c)) xs ys
+    more ∙ ap (option_map (λ es. es ++ ys)) all ∙ more_entries (entries_held (image_of c)) xs ys
 
 -- what is read itself has the entries of what is read
 pub all_same : (content : Option (List ℕ)) (image : List ℕ) → content ≡ Some image
     → HasAll content [] image
 all_same None image is = tt
 all_same (Some c) image is =
-    subst (λ (i : List ℕ). entries_of (image_of i)
-    ≡ option_map (λ es. es ++ []) (entries_of (image_of c))) (same_Some c image is)
-    (none_more (entries_of (image_of c)))
+    subst (λ (i : List ℕ). entries_held (image_of i)
+    ≡ option_map (λ es. es ++ []) (entries_held (image_of c))) (same_Some c image is)
+    (none_more (entries_held (image_of c)))
 
 -- a front of a list is one of the list with more behind it
 pub some_wider : (content : Option (List ℕ)) (done xs more : List (List ℕ)) (image : List ℕ)

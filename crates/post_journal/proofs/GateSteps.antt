@@ -3,7 +3,7 @@ use Rattle.std.proofs.Common.{◌≡◌, inl, inr, ⊎_elim, ℕ, ◌+◌, ◌<�
 use Rattle.std.specs.Option.{is_some, option_map}
 use Rattle.std.proofs.lemmas.Option.{same_Some}
 use Rattle.std.proofs.lemmas.List.{drop_at, drop_more, drop-drop, length-drop, take_at, take-take, take-append-le, length-take-le}
-use Rattle.reg_io.specs.Disks.{After, DiskState, IsSure, IsWithin, Leaves, MayLeave, Torn, put_at}
+use Rattle.reg_io.specs.Disks.{After, DiskState, IsSure, LiesWithin, LeavesOnly, MayLeave, Torn, put_at}
 use Rattle.post_journal.specs.Images.{with_gate}
 use Rattle.post_journal.specs.Gates.{IsBehindGate, IsTornPut}
 use Rattle.post_journal.specs.Journals.{ShowsOnly}
@@ -62,7 +62,7 @@ torn_after disk place count sure image after =
 -- a write that no sync has followed
 pub shows_write : (old new : DiskState) (place count : ℕ) → IsSure old
     → is_some new.content ≡ is_some old.content → IfSome new.content (MayLeave new)
-    → Leaves old new (After (Torn place count) old) → new.syncs ≡ old.syncs
+    → LeavesOnly old new (After (Torn place count) old) → new.syncs ≡ old.syncs
     → ShowsOnly old new (IsTornPut place count old.content)
 shows_write old new place count sure told shown leaves same = record {
   moments = weaker old new leaves (torn_after old place count sure);
@@ -86,10 +86,10 @@ read_torn o s (Some image) place bytes within is same =
     torn_done o s place bytes within is image (sym same)
 
 -- a write that was made, and a sync, however it ends
-pub shows_put : (old mid new : DiskState) (place : ℕ) (bytes : List ℕ) → IsWithin place old
+pub shows_put : (old mid new : DiskState) (place : ℕ) (bytes : List ℕ) → LiesWithin place old
     → mid.content ≡ option_map (put_at place bytes) old.content
     → ShowsOnly old mid (IsTornPut place (length bytes) old.content)
-    → new.content ≡ mid.content → Leaves mid new (λ image. new.content ≡ Some image)
+    → new.content ≡ mid.content → LeavesOnly mid new (λ image. new.content ≡ Some image)
     → mid.syncs ≤ new.syncs → ShowsOnly old new (IsTornPut place (length bytes) old.content)
 shows_put old mid new place bytes within is write same leaves later = record {
   moments = then old mid new write.moments leaves

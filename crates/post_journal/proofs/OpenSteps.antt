@@ -3,10 +3,10 @@ use Rattle.std.proofs.Common.{◌≡◌, ◌⊎◌, inl, inr, ⊎_elim, ℕ, ◌
 use Rattle.std.specs.Prelude.{nat_le, ◌==◌, if◌then◌else◌}
 use Rattle.std.proofs.lemmas.Bool.{true≢false, and_parts, or_cases, eqb-true, leb-true, not-true, lt-leb}
 use Rattle.reg_io.specs.Disks.{DiskState}
-use Rattle.post_journal.specs.Images.{entries_of, fresh, image_by, image_of, is_begun, is_fresh, is_open, not_a_journal, run_from}
+use Rattle.post_journal.specs.Images.{entries_held, fresh, image_by, image_of, is_begun, is_fresh, is_open, not_a_journal, run_from}
 use Rattle.post_journal.specs.Gates.{HasNoEntries, IsClosedFile, IsContent, IsEmptyJournal}
 use Rattle.post_journal.specs.Journals.{HasAll, Keeps, RunsTo, ShowsOnly}
-use Rattle.post_journal.specs.Openings.{EndsRun, Opens, beginning_of, closes_first, payloads}
+use Rattle.post_journal.specs.Openings.{EndsRun, OpensAs, beginning_of, closes_first, payloads}
 use Rattle.post_journal.specs.declared.beginning.Beginning.{Beginning}
 use Rattle.post_journal.specs.declared.beginning.Beginning.TheVariants.{Empty, Fresh, Begun, Other}
 use Rattle.post_journal.specs.declared.fault.OpenFault.{OpenFault}
@@ -114,7 +114,7 @@ same_empty : (o : Option (List ℕ)) → IfSome o (λ bytes. image_of bytes ≡ 
     → (image : List ℕ) → IfSome o (λ _. HasNoEntries image) → HasAll o [] image
 same_empty None new image none = tt
 same_empty (Some bytes) new image none =
-    none ∙ sym (ap entries_of new) ∙ none_more (entries_of (image_of bytes))
+    none ∙ sym (ap entries_held new) ∙ none_more (entries_held (image_of bytes))
 
 -- what was looked at is as before
 pub keeps_looked : (first now : DiskState) → ShowsOnly first now (IsContent first) → Keeps first now
@@ -131,23 +131,23 @@ keeps_begun first mid now shows same new begun =
 
 pub opens_new : {A : Type 0} (o : Option (List ℕ)) (journal : A)
     → IfSome o (λ bytes. image_of bytes ≡ fresh)
-    → IfSome o (λ bytes. Opens (image_of bytes) (Ok (journal, [])))
+    → IfSome o (λ bytes. OpensAs (image_of bytes) (Ok (journal, [])))
 opens_new None journal new = tt
-opens_new (Some bytes) journal new = ap entries_of new
+opens_new (Some bytes) journal new = ap entries_held new
 
 pub opens_run : {A : Type 0} (o : Option (List ℕ)) (journal : A) (end : ℕ) (entries : List Payload)
     → IfSome o (λ bytes. image_of bytes ≡ run_from (length bytes) 22 (drop 22 bytes))
     → IfSome o (λ bytes. EndsRun (run_from (length bytes) 22 (drop 22 bytes)) (Ok (end, entries)))
-    → IfSome o (λ bytes. Opens (image_of bytes) (Ok (journal, entries)))
+    → IfSome o (λ bytes. OpensAs (image_of bytes) (Ok (journal, entries)))
     × IfSome o (RunsTo end)
 opens_run None journal end entries is ends = (tt, tt)
 opens_run (Some bytes) journal end entries is ends =
-    (ap entries_of (is ∙ ends), (payloads entries, is ∙ ends))
+    (ap entries_held (is ∙ ends), (payloads entries, is ∙ ends))
 
 pub opens_bad : (A : Type 0) (o : Option (List ℕ)) (e : OpenFault)
     → IfSome o (λ bytes. image_of bytes ≡ run_from (length bytes) 22 (drop 22 bytes))
     → IfSome o (λ bytes. EndsRun (run_from (length bytes) 22 (drop 22 bytes)) (Err e))
-    → IfSome o (λ bytes. Opens {A = A} (image_of bytes) (Err e))
+    → IfSome o (λ bytes. OpensAs {A = A} (image_of bytes) (Err e))
 opens_bad A None e is ends = tt
 opens_bad A (Some bytes) NotAJournal is ends = absurd ends
 opens_bad A (Some bytes) (BadEntry place) is ends = is ∙ ends
@@ -156,10 +156,10 @@ opens_bad A (Some bytes) Memory is ends = tt
 
 pub opens_empty : (o : Option (List ℕ)) (entries : List Payload) → entries ≡ []
     → IfSome o (λ bytes. image_of bytes ≡ fresh)
-    → IfSome o (λ bytes. entries_of (image_of bytes) ≡ Some (payloads entries))
+    → IfSome o (λ bytes. entries_held (image_of bytes) ≡ Some (payloads entries))
 opens_empty None entries none new = tt
 opens_empty (Some bytes) entries none new =
-    ap entries_of new ∙ ap (λ (l : List Payload). Some (payloads l)) (sym none)
+    ap entries_held new ∙ ap (λ (l : List Payload). Some (payloads l)) (sym none)
 
 -- what is seen of a file tells how it begins, and how long it is
 pub seen_kind : (o : Option (List ℕ)) (kind : Beginning) (len : ℕ)

@@ -1,17 +1,17 @@
 -- What may be found on a disk, call after call.
 use Rattle.std.proofs.Common.{◌≡◌, inl, inr, ⊎_elim, ℕ, ◌≤◌, List, Option, None, Some, IfSome, sym, ◌∙◌, ap, subst, arith}
 use Rattle.std.specs.Option.{is_some}
-use Rattle.reg_io.specs.Disks.{DiskState, IsSure, Leaves, Stays}
+use Rattle.reg_io.specs.Disks.{DiskState, IsSure, LeavesOnly, Stays}
 use Rattle.post_journal.specs.Gates.{IsContent}
 use Rattle.post_journal.specs.Journals.{ShowsOnly}
 
-pub weaker : (old new : DiskState) {P Q : List ℕ → Type 0} → Leaves old new Q
-    → ((image : List ℕ) → Q image → P image) → Leaves old new P
+pub weaker : (old new : DiskState) {P Q : List ℕ → Type 0} → LeavesOnly old new Q
+    → ((image : List ℕ) → Q image → P image) → LeavesOnly old new P
 weaker old new call each k image left = ⊎_elim (λ was. inl was) (λ q. inr (each image q)) (call k image left)
 
 -- one call more
-pub then : (old mid new : DiskState) {P Q : List ℕ → Type 0} → Leaves old mid P
-    → Leaves mid new Q → ((image : List ℕ) → Q image → P image) → Leaves old new P
+pub then : (old mid new : DiskState) {P Q : List ℕ → Type 0} → LeavesOnly old mid P
+    → LeavesOnly mid new Q → ((image : List ℕ) → Q image → P image) → LeavesOnly old new P
 then old mid new first second each k image left =
     ⊎_elim (λ was. first k image was) (λ q. inr (each image q)) (second k image left)
 
@@ -44,7 +44,7 @@ content_is first (Some image) is = sym is
 
 -- a sync, however it ends
 pub shows_sync : (first now : DiskState) → now.content ≡ first.content
-    → Leaves first now (λ image. now.content ≡ Some image) → first.syncs ≤ now.syncs
+    → LeavesOnly first now (λ image. now.content ≡ Some image) → first.syncs ≤ now.syncs
     → ShowsOnly first now (IsContent first)
 shows_sync first now is leaves later = record {
   moments = weaker first now leaves (λ image e. sym is ∙ e);

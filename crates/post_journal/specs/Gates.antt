@@ -1,7 +1,7 @@
 -- Private: what a disk holds while bytes are put behind a gate byte and it is opened.
 use Rattle.std.specs.Prelude.{◌≡◌, ◌⊎◌, ◌<◌, false, ℕ, ◌+◌, ◌≤◌, List, [], length, Option, IfSome, Some}
 use Rattle.reg_io.specs.Disks.{DiskState, Torn}
-use Rattle.post_journal.specs.Images.{entries_of, image_of, is_open, with_gate}
+use Rattle.post_journal.specs.Images.{entries_held, image_of, is_open, with_gate}
 
 -- a gate byte stands at this place
 abbrev pub HasGate : ℕ → DiskState → Type 0
@@ -36,7 +36,7 @@ pub record IsClosedFile (bytes : List ℕ) : Type 0 where
 
 -- a journal without entries, or a file that is to be begun
 abbrev pub HasNoEntries : List ℕ → Type 0
-HasNoEntries image = entries_of (image_of image) ≡ Some []
+HasNoEntries image = entries_held (image_of image) ≡ Some []
 
 -- the same, where bytes were told
 abbrev pub IsEmptyJournal : DiskState → List ℕ → Type 0

@@ -88,11 +88,11 @@ image_of bytes =
     image_by (is_fresh bytes) (is_begun bytes) (run_from (length bytes) 22 (drop 22 bytes))
 
 -- the entries of a journal, of which a file that is to be begun has none
-abbrev pub entries_of : Image → Option (List (List ℕ))
-entries_of fresh = Some []
-entries_of not_a_journal = None
-entries_of (bad_entry place) = None
-entries_of (holds entries end) = Some entries
+abbrev pub entries_held : Image → Option (List (List ℕ))
+entries_held fresh = Some []
+entries_held not_a_journal = None
+entries_held (bad_entry place) = None
+entries_held (holds entries end) = Some entries
 
 -- how many bytes of a file a journal with these entries uses: the first entry, and behind each one
 -- the next gate byte

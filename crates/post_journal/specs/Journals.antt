@@ -2,8 +2,8 @@
 use Rattle.std.specs.Prelude.{◌≡◌, ℕ, ◌+◌, ◌<◌, ◌≤◌, Bool, true, false, List, [], ◌∷◌, ◌++◌, length, take}
 use Rattle.std.specs.Prelude.{Option, IfSome, Result, Ok, Err}
 use Rattle.std.specs.Option.{is_some, option_map}
-use Rattle.reg_io.specs.Disks.{DiskState, IsSure, Leaves, MayLeave}
-use Rattle.post_journal.specs.Images.{end_of_places, entries_of, holds, image_of, most_payload}
+use Rattle.reg_io.specs.Disks.{DiskState, IsSure, LeavesOnly, MayLeave}
+use Rattle.post_journal.specs.Images.{end_of_places, entries_held, holds, image_of, most_payload}
 
 -- a journal that was opened: the place of the gate byte behind its last entry, how long a payload
 -- it has room for, and whether an append has failed
@@ -23,7 +23,7 @@ pub record Stands (end : ℕ) (disk : DiskState) : Type 0 where
   pub sure : IsSure disk
 
 -- an entry that may stand behind a gate byte
-pub record Fits (end : ℕ) (payload : List ℕ) : Type 0 where
+pub record FitsBehind (end : ℕ) (payload : List ℕ) : Type 0 where
   pub some : 1 ≤ length payload
   pub most : length payload ≤ most_payload
   pub low : end + (5 + length payload) < end_of_places
@@ -33,15 +33,15 @@ pub record Fits (end : ℕ) (payload : List ℕ) : Type 0 where
 -- all that was to be found since the first moment has P: what a crash might have left at any
 -- moment, where it might not have left it before, and what is read now
 pub record ShowsOnly (first now : DiskState) (P : List ℕ → Type 0) : Type 0 where
-  pub moments : Leaves first now P
+  pub moments : LeavesOnly first now P
   pub shown : IfSome now.content P
   pub told : is_some now.content ≡ is_some first.content
   pub later : first.syncs ≤ now.syncs
 
 -- the entries of what was there, and behind them exactly these
 abbrev pub HasAll : Option (List ℕ) → List (List ℕ) → List ℕ → Type 0
-HasAll content payloads image = IfSome content (λ bytes. entries_of (image_of image)
-    ≡ option_map (λ entries. entries ++ payloads) (entries_of (image_of bytes)))
+HasAll content payloads image = IfSome content (λ bytes. entries_held (image_of image)
+    ≡ option_map (λ entries. entries ++ payloads) (entries_held (image_of bytes)))
 
 -- the entries of what was there, behind them all of the first list, and a front of the second
 abbrev pub HasSome : Option (List ℕ) → List (List ℕ) → List (List ℕ) → List ℕ → Type 0
@@ -55,7 +55,7 @@ Keeps first now = ShowsOnly first now (HasAll first.content [])
 -- these entries were appended one after another, and of those in flight perhaps a front
 pub record Grows (first now : DiskState) (done flight : List (List ℕ)) : Type 0 where
   -- what a crash at any moment might have left is from before, or has a front of all
-  pub moments : Leaves first now (HasSome first.content [] (done ++ flight))
+  pub moments : LeavesOnly first now (HasSome first.content [] (done ++ flight))
   -- what is read has all that are done
   pub shown : IfSome now.content (HasSome first.content done flight)
   -- what a crash may leave now has them too

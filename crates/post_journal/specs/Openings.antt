@@ -7,7 +7,7 @@ use Rattle.post_journal.specs.Images.{
   Image,
   bad_entry,
   end_of_places,
-  entries_of,
+  entries_held,
   holds,
   is_begun,
   is_fresh,
@@ -38,12 +38,12 @@ abbrev pub payloads : List Payload → List (List ℕ)
 payloads entries = map (λ p. p.bytes) entries
 
 -- opening answers what the file is, unless the disk failed or memory was refused
-abbrev pub Opens : {A : Type 0} → Image → Result (A × List Payload) OpenFault → Type 0
-Opens image (Ok opened) = entries_of image ≡ Some (payloads opened.1)
-Opens image (Err NotAJournal) = image ≡ not_a_journal
-Opens image (Err (BadEntry place)) = image ≡ bad_entry place
-Opens image (Err DiskFault) = ⊤
-Opens image (Err Memory) = ⊤
+abbrev pub OpensAs : {A : Type 0} → Image → Result (A × List Payload) OpenFault → Type 0
+OpensAs image (Ok opened) = entries_held image ≡ Some (payloads opened.1)
+OpensAs image (Err NotAJournal) = image ≡ not_a_journal
+OpensAs image (Err (BadEntry place)) = image ≡ bad_entry place
+OpensAs image (Err DiskFault) = ⊤
+OpensAs image (Err Memory) = ⊤
 
 -- the count did not fall, and it rose where the disk is said to have failed
 pub record HasDiskCause {T : Type 0} (before now : ℕ) (result : Result T OpenFault) : Type 0 where

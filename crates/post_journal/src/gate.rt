@@ -2,7 +2,7 @@
 ghost use Rattle.std.specs.Prelude.{◌≡◌, ◌+◌, ◌<◌, ◌^◌, length, OnOk};
 ghost use Rattle.std.specs.Option.{option_map};
 ghost use Rattle.reg_io.specs.Counts.{HasCause};
-ghost use Rattle.reg_io.specs.Disks.{IsSure, IsWithin, put_at};
+ghost use Rattle.reg_io.specs.Disks.{IsSure, LiesWithin, put_at};
 ghost use Rattle.post_journal.specs.Images.{with_gate};
 ghost use Rattle.post_journal.specs.Gates.{HasGate, IsBehindGate, IsTornPut};
 ghost use Rattle.post_journal.specs.Journals.{ShowsOnly};
@@ -29,7 +29,7 @@ pub(crate) fn open_behind<D: Disk>(disk: &mut D, place: u64, behind: &[u8]) -> R
 
 // Writes, and makes sure what was written.
 pub(crate) fn put_sure<D: Disk>(disk: &mut D, place: u64, bytes: &[u8]) -> Result<(), Failed>
-    requires within { IsWithin place (D.state disk.old) }
+    requires within { LiesWithin place (D.state disk.old) }
     requires sure { IsSure (D.state disk.old) }
     ensures ok { OnOk result ((D.state disk.new).content
         ≡ option_map (put_at place bytes.now) (D.state disk.old).content) }

@@ -5,7 +5,7 @@
 ghost use Rattle.std.specs.Prelude.{◌≡◌, ◌+◌, ◌-◌, ◌<◌, ◌≤◌, false, length, vec_len, OnOk};
 ghost use Rattle.reg_io.specs.Counts.{HasCause};
 ghost use Rattle.post_journal.specs.Images.{behind_gate, end_of_places, most_payload};
-ghost use Rattle.post_journal.specs.Journals.{AppendEnds, Fits, GrowsBy, Stands};
+ghost use Rattle.post_journal.specs.Journals.{AppendEnds, FitsBehind, GrowsBy, Stands};
 
 use crate::fault::DiskFault;
 use crate::gate::open_behind;
@@ -80,7 +80,7 @@ impl Journal {
     pub fn append<D: Disk>(&mut self, disk: &mut D, payload: &Payload) -> Result<(), DiskFault>
         requires usable { self.old.failed ≡ false }
         requires stands { Stands self.old.end (D.state disk.old) }
-        requires fits { Fits self.old.end payload.now.bytes }
+        requires fits { FitsBehind self.old.end payload.now.bytes }
         requires room { length payload.now.bytes ≤ self.old.spare }
         ensures grows { GrowsBy (D.state disk.old) (D.state disk.new) payload.now.bytes result }
         ensures ends { AppendEnds self.old self.new (length payload.now.bytes)

@@ -8,7 +8,7 @@ ghost use Rattle.post_journal.specs.Journals.{Keeps, ShowsOnly, Stands};
 ghost use Rattle.post_journal.specs.Openings.{
   HasDiskCause,
   KeepsRefused,
-  Opens,
+  OpensAs,
   beginning_of,
   payloads,
 };
@@ -31,7 +31,7 @@ impl Journal {
     /// is begun.
     pub fn open<D: Disk>(alloc: Global, disk: &mut D) -> Result<(Journal, List<Payload>), OpenFault>
         ensures opens { IfSome (D.state disk.old).content
-            (λ bytes. Opens (image_of bytes) result) }
+            (λ bytes. OpensAs (image_of bytes) result) }
         ensures stands { IfOk result (λ opened. (opened.0.failed ≡ false)
             × Stands opened.0.end (D.state disk.new)) }
         ensures end { IfOk result (λ opened.

@@ -3,7 +3,7 @@ use Rattle.std.proofs.Common.{◌≡◌, ℕ, zero, suc, ◌+◌, ◌<◌, ◌�
 use Rattle.std.proofs.lemmas.Bool.{and_from, eq-eqb}
 use Rattle.std.proofs.lemmas.List.{drop_all, length-map, length-replicate, length-take, take_all, take_more}
 use Rattle.reg_io.specs.Disks.{MayLeave, put_at}
-use Rattle.reg_io.specs.DiskCalls.{History, IsImage, Stage, after_call, fits, history_of, loosened, state_of, suits}
+use Rattle.reg_io.specs.DiskCalls.{History, IsImage, Stage, after_call, all_suit, history_of, loosened, disk_of, is_suited}
 use Rattle.reg_io.specs.Crashes.{Follows, IsValid, crash_bytes, scrambled}
 use Rattle.reg_io.specs.declared.crash.CrashImage.{CrashImage}
 use Rattle.reg_io.specs.declared.crash.CrashImage.TheVariants.{AsRead, Confirmed, Scrambled}
@@ -14,13 +14,13 @@ use Rattle.reg_io.proofs.DiskCalls.{fits_length, fits_take, history-push, left_n
 
 -- ---- the three are among what a crash may leave
 
-suits_scrambled : (s : Option ℕ) → suits s (scrambled s) ≡ true
+suits_scrambled : (s : Option ℕ) → is_suited s (scrambled s) ≡ true
 suits_scrambled None = refl
 suits_scrambled (Some b) = eq-eqb b b refl
 
-fits_scrambled : (sure : List (Option ℕ)) → fits sure (map scrambled sure) ≡ true
+fits_scrambled : (sure : List (Option ℕ)) → all_suit sure (map scrambled sure) ≡ true
 fits_scrambled [] = refl
-fits_scrambled (s ∷ sure) = and_from (suits s (scrambled s)) _ (suits_scrambled s) (fits_scrambled sure)
+fits_scrambled (s ∷ sure) = and_from (is_suited s (scrambled s)) _ (suits_scrambled s) (fits_scrambled sure)
 
 is_image : (image : CrashImage) (stage : Stage) → IsValid stage → IsImage stage (crash_bytes image stage)
 is_image AsRead stage v = record { long = v.low; fitting = v.fitting }
@@ -38,7 +38,7 @@ is_image Scrambled stage v =
 
 pub left : (image : CrashImage) (first : List ℕ) (calls : List DiskCall) (content bytes : List ℕ)
     → bytes ≡ crash_bytes image (history_of first calls).now
-    → MayLeave (state_of content (history_of first calls)) bytes
+    → MayLeave (disk_of content (history_of first calls)) bytes
 left image first calls content bytes is =
     let h = history_of first calls in
     left_now h bytes (subst (IsImage h.now) (sym is) (is_image image h.now (valid first calls)))

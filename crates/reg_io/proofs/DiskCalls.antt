@@ -3,8 +3,8 @@ use Rattle.std.proofs.Common.{◌≡◌, inl, inr, ⊎_elim, ℕ, zero, suc, ◌
 use Rattle.std.specs.Prelude.{◌==◌, ◌⊎◌}
 use Rattle.std.proofs.lemmas.Bool.{false≢true, and_parts, and_from, eqb-true, eq-eqb}
 use Rattle.std.proofs.lemmas.List.{length-take, length-drop, length-append, take_all, drop_all}
-use Rattle.reg_io.specs.Disks.{After, CutBack, DiskState, IsSure, Leaves, MayLeave, Torn, put_at}
-use Rattle.reg_io.specs.DiskCalls.{History, IsImage, LeftBefore, LeftSince, Stage, after_call, after_calls, fits, history_of, loosened, loosened_stage, state_of, suits, sure_of}
+use Rattle.reg_io.specs.Disks.{After, CutBack, DiskState, IsSure, LeavesOnly, MayLeave, Torn, put_at}
+use Rattle.reg_io.specs.DiskCalls.{History, IsImage, LeftBefore, LeftSince, Stage, after_call, after_calls, all_suit, history_of, loosened, loosened_stage, disk_of, is_suited, sure_of}
 use Rattle.reg_io.specs.Crashes.{IsValid}
 use Rattle.reg_io.specs.declared.disk_call.DiskCall.{DiskCall}
 use Rattle.reg_io.specs.declared.disk_call.DiskCall.TheVariants.{Wrote, FailedWrite, Cut, FailedCut, Synced}
@@ -23,11 +23,11 @@ history-push first calls call =
 
 -- ---- what is sure of the bytes
 
-fits_sure : (content : List ℕ) → fits (map Some content) content ≡ true
+fits_sure : (content : List ℕ) → all_suit (map Some content) content ≡ true
 fits_sure [] = refl
 fits_sure (b ∷ content) = and_from (b == b) _ (eq-eqb b b refl) (fits_sure content)
 
-sure_image : (content image : List ℕ) → fits (map Some content) image ≡ true
+sure_image : (content image : List ℕ) → all_suit (map Some content) image ≡ true
     → length content ≤ length image → image ≡ content
 sure_image [] [] fit long = refl
 sure_image [] (b ∷ image) fit long = absurd (false≢true fit)
@@ -46,12 +46,12 @@ mended zero (suc count) (Some s ∷ sure) (b ∷ image) = s ∷ mended zero coun
 mended (suc place) count [] (b ∷ image) = []
 mended (suc place) count (s ∷ sure) (b ∷ image) = b ∷ mended place count sure image
 
-pub fits_length : (sure : List (Option ℕ)) (image : List ℕ) → fits sure image ≡ true
+pub fits_length : (sure : List (Option ℕ)) (image : List ℕ) → all_suit sure image ≡ true
     → length image ≤ length sure
 fits_length sure [] fit = omega arith
 fits_length [] (b ∷ image) fit = absurd (false≢true fit)
 fits_length (s ∷ sure) (b ∷ image) fit =
-    omega (arith, fits_length sure image (and_parts (suits s b) _ fit).1)
+    omega (arith, fits_length sure image (and_parts (is_suited s b) _ fit).1)
 
 length-loosened : (count : ℕ) → length (loosened zero count []) ≡ count
 length-loosened zero = refl
@@ -62,7 +62,7 @@ drop_next : (m n b c : ℕ) (xs ys : List ℕ) → m ≡ suc n → drop n xs ≡
 drop_next m n b c xs ys is e = subst (λ k. drop k (b ∷ xs) ≡ drop k (c ∷ ys)) (sym is) e
 
 record IsMended (place count : ℕ) (sure : List (Option ℕ)) (image old : List ℕ) : Type 0 where
-  fitting : fits sure old ≡ true
+  fitting : all_suit sure old ≡ true
   before : take place image ≡ take place old
   behind : (m n : ℕ) → m ≡ place → n ≡ m + count → drop n image ≡ drop n old
   no_longer : length old ≤ length image
@@ -70,7 +70,7 @@ record IsMended (place count : ℕ) (sure : List (Option ℕ)) (image old : List
   least : min (length image) (length sure) ≤ length old
 
 mend : (place count : ℕ) (sure : List (Option ℕ)) (image : List ℕ) → place ≤ length sure
-    → fits (loosened place count sure) image ≡ true
+    → all_suit (loosened place count sure) image ≡ true
     → IsMended place count sure image (mended place count sure image)
 mend place count sure [] within fit = record {
   fitting = refl;
@@ -121,10 +121,10 @@ mend zero (suc count) (Some s ∷ sure) (b ∷ image) within fit =
     }
 mend (suc place) count [] (b ∷ image) within fit = absurd (omega arith)
 mend (suc place) count (s ∷ sure) (b ∷ image) within fit =
-    let parts = and_parts (suits s b) _ fit in
+    let parts = and_parts (is_suited s b) _ fit in
     let more = mend place count sure image (omega arith) parts.1 in
     record {
-      fitting = and_from (suits s b) _ parts.0 more.fitting;
+      fitting = and_from (is_suited s b) _ parts.0 more.fitting;
       before = ap (λ (l : List ℕ). b ∷ l) more.before;
       behind = λ m n is sum. drop_next n (place + count) b b _ _ (omega arith)
           (more.behind place (place + count) refl refl);
@@ -135,45 +135,45 @@ mend (suc place) count (s ∷ sure) (b ∷ image) within fit =
 
 -- ---- a stage tells what a read gives among what a crash may leave
 
-fits_drop : (n : ℕ) (sure : List (Option ℕ)) (image : List ℕ) → fits sure image ≡ true
-    → fits (drop n sure) (drop n image) ≡ true
+fits_drop : (n : ℕ) (sure : List (Option ℕ)) (image : List ℕ) → all_suit sure image ≡ true
+    → all_suit (drop n sure) (drop n image) ≡ true
 fits_drop zero sure image fit = fit
 fits_drop (suc n) sure [] fit = refl
 fits_drop (suc n) [] (b ∷ image) fit = absurd (false≢true fit)
 fits_drop (suc n) (s ∷ sure) (b ∷ image) fit =
-    fits_drop n sure image (and_parts (suits s b) _ fit).1
+    fits_drop n sure image (and_parts (is_suited s b) _ fit).1
 
-pub fits_take : (n : ℕ) (sure : List (Option ℕ)) (image : List ℕ) → fits sure image ≡ true
-    → fits sure (take n image) ≡ true
+pub fits_take : (n : ℕ) (sure : List (Option ℕ)) (image : List ℕ) → all_suit sure image ≡ true
+    → all_suit sure (take n image) ≡ true
 fits_take zero sure image fit = refl
 fits_take (suc n) sure [] fit = refl
 fits_take (suc n) [] (b ∷ image) fit = absurd (false≢true fit)
 fits_take (suc n) (s ∷ sure) (b ∷ image) fit =
-    let parts = and_parts (suits s b) _ fit in
-    and_from (suits s b) _ parts.0 (fits_take n sure image parts.1)
+    let parts = and_parts (is_suited s b) _ fit in
+    and_from (is_suited s b) _ parts.0 (fits_take n sure image parts.1)
 
-fits_loose : (place count : ℕ) (sure : List (Option ℕ)) (image : List ℕ) → fits sure image ≡ true
-    → fits (loosened place count sure) image ≡ true
+fits_loose : (place count : ℕ) (sure : List (Option ℕ)) (image : List ℕ) → all_suit sure image ≡ true
+    → all_suit (loosened place count sure) image ≡ true
 fits_loose place count sure [] fit = refl
 fits_loose place count [] (b ∷ image) fit = absurd (false≢true fit)
 fits_loose zero zero (s ∷ sure) (b ∷ image) fit = fit
 fits_loose zero (suc count) (s ∷ sure) (b ∷ image) fit =
-    fits_loose zero count sure image (and_parts (suits s b) _ fit).1
+    fits_loose zero count sure image (and_parts (is_suited s b) _ fit).1
 fits_loose (suc place) count (s ∷ sure) (b ∷ image) fit =
-    let parts = and_parts (suits s b) _ fit in
-    and_from (suits s b) _ parts.0 (fits_loose place count sure image parts.1)
+    let parts = and_parts (is_suited s b) _ fit in
+    and_from (is_suited s b) _ parts.0 (fits_loose place count sure image parts.1)
 
 fits_over : (bytes : List ℕ) (sure : List (Option ℕ)) (tail : List ℕ)
-    → fits (drop (length bytes) sure) tail ≡ true
-    → fits (loosened zero (length bytes) sure) (bytes ++ tail) ≡ true
+    → all_suit (drop (length bytes) sure) tail ≡ true
+    → all_suit (loosened zero (length bytes) sure) (bytes ++ tail) ≡ true
 fits_over [] sure tail fit = fit
 fits_over (b ∷ bytes) [] tail fit =
     fits_over bytes [] tail (rw (drop_all {X = Option ℕ} (length bytes) [] (omega arith)) fit)
 fits_over (b ∷ bytes) (s ∷ sure) tail fit = fits_over bytes sure tail fit
 
 fits_put : (place end : ℕ) (bytes : List ℕ) (sure : List (Option ℕ)) (content : List ℕ)
-    → end ≡ place + length bytes → place ≤ length content → fits sure content ≡ true
-    → fits (loosened place (length bytes) sure) (take place content ++ (bytes ++ drop end content)) ≡ true
+    → end ≡ place + length bytes → place ≤ length content → all_suit sure content ≡ true
+    → all_suit (loosened place (length bytes) sure) (take place content ++ (bytes ++ drop end content)) ≡ true
 fits_put zero end bytes sure content is within fit =
     let same : end ≡ length bytes = omega arith in
     fits_over bytes sure (drop end content)
@@ -182,8 +182,8 @@ fits_put (suc place) end bytes sure [] is within fit = absurd (omega arith)
 fits_put (suc place) end bytes [] (c ∷ content) is within fit = absurd (false≢true fit)
 fits_put (suc place) zero bytes (s ∷ sure) (c ∷ content) is within fit = absurd (omega arith)
 fits_put (suc place) (suc end) bytes (s ∷ sure) (c ∷ content) is within fit =
-    let parts = and_parts (suits s c) _ fit in
-    and_from (suits s c) _ parts.0
+    let parts = and_parts (is_suited s c) _ fit in
+    and_from (is_suited s c) _ parts.0
     (fits_put place end bytes sure content (omega arith) (omega arith) parts.1)
 
 length-put_at : (place : ℕ) (bytes content : List ℕ) → place ≤ length content
@@ -242,7 +242,7 @@ valid first calls = valid_calls calls (record { now = sure_of first; before = []
 -- ---- what each call leaves
 
 abbrev pub of : History → DiskState
-of h = state_of h.now.content h
+of h = disk_of h.now.content h
 
 left_le : (k : ℕ) (before : List Stage) (image : List ℕ) → LeftBefore k before image → k < length before
 left_le k [] image left = absurd left
@@ -255,12 +255,12 @@ left_now h image is = (omega arith, inl (omega arith, is))
 -- a stage in the place of the one that was now
 leaves_now : (h : History) (now : Stage) (P : List ℕ → Type 0)
     → ((image : List ℕ) → IsImage now image → P image)
-    → Leaves (of h) (of (record { now = now; before = h.before })) P
+    → LeavesOnly (of h) (of (record { now = now; before = h.before })) P
 leaves_now h now P each k image (le, inl here) = inr (each image here.1)
 leaves_now h now P each k image (le, inr older) = inl (le, inr older)
 
 write_leaves : (h : History) (place count : ℕ) (content : List ℕ) → IsValid h.now → place ≤ length h.now.content
-    → Leaves (of h)
+    → LeavesOnly (of h)
     (of (record { now = loosened_stage place count content h.now; before = h.before }))
     (After (Torn place count) (of h))
 write_leaves h place count content is within =
@@ -270,7 +270,7 @@ write_leaves h place count content is within =
         → After (Torn place count) (of h) image
     each image left =
         let here : min place (length h.now.content) ≡ place = omega (arith, within) in
-        let fit = subst (λ (q : ℕ). fits (loosened q count h.now.bytes) image ≡ true) here left.fitting in
+        let fit = subst (λ (q : ℕ). all_suit (loosened q count h.now.bytes) image ≡ true) here left.fitting in
         let more = fits_length h.now.bytes h.now.content is.fitting in
         let low = is.low in let long = left.long in
         let m = mend place count h.now.bytes image (omega arith) fit in
@@ -296,17 +296,17 @@ filled (suc least) [] image = image
 filled (suc least) (s ∷ sure) [] = value_of s ∷ filled least sure []
 filled (suc least) (s ∷ sure) (b ∷ image) = b ∷ filled least sure image
 
-suits_value : (s : Option ℕ) → suits s (value_of s) ≡ true
+suits_value : (s : Option ℕ) → is_suited s (value_of s) ≡ true
 suits_value None = refl
 suits_value (Some b) = eq-eqb b b refl
 
 record IsFilled (least : ℕ) (sure : List (Option ℕ)) (image old : List ℕ) : Type 0 where
-  fitting : fits sure old ≡ true
+  fitting : all_suit sure old ≡ true
   front : take (length image) old ≡ image
   long : min least (length sure) ≤ length old
   no_longer : length old ≤ max (length image) least
 
-fill : (least : ℕ) (sure : List (Option ℕ)) (image : List ℕ) → fits sure image ≡ true
+fill : (least : ℕ) (sure : List (Option ℕ)) (image : List ℕ) → all_suit sure image ≡ true
     → IsFilled least sure image (filled least sure image)
 fill zero sure image fit = record {
   fitting = fit;
@@ -323,23 +323,23 @@ fill (suc least) [] image fit = record {
 fill (suc least) (s ∷ sure) [] fit =
     let more = fill least sure [] refl in
     record {
-      fitting = and_from (suits s (value_of s)) _ (suits_value s) more.fitting;
+      fitting = and_from (is_suited s (value_of s)) _ (suits_value s) more.fitting;
       front = refl;
       long = omega (arith, more.long);
       no_longer = omega (arith, more.no_longer);
     }
 fill (suc least) (s ∷ sure) (b ∷ image) fit =
-    let parts = and_parts (suits s b) _ fit in
+    let parts = and_parts (is_suited s b) _ fit in
     let more = fill least sure image parts.1 in
     record {
-      fitting = and_from (suits s b) _ parts.0 more.fitting;
+      fitting = and_from (is_suited s b) _ parts.0 more.fitting;
       front = ap (λ (l : List ℕ). b ∷ l) more.front;
       long = omega (arith, more.long);
       no_longer = omega (arith, more.no_longer);
     }
 
 cut_leaves : (h : History) (len : ℕ) (content : List ℕ) → IsValid h.now
-    → Leaves (of h)
+    → LeavesOnly (of h)
     (of (record {
       now = record { confirmed = h.now.confirmed; content = content; bytes = h.now.bytes; least = min len h.now.least };
       before = h.before;
@@ -362,7 +362,7 @@ cut_leaves h len content is =
         )
 
 sync_leaves : (h : History)
-    → Leaves (of h) (of (after_call Synced h))
+    → LeavesOnly (of h) (of (after_call Synced h))
     (λ image. Some h.now.content ≡ Some image)
 sync_leaves h k image (le, inl here) =
     inr (ap Some (sym (sure_image h.now.content image here.1.fitting here.1.long)))
@@ -404,44 +404,44 @@ wrote_content h now place bytes content is within e =
 
 pub wrote : (h now : History) (place : ℕ) (bytes content : List ℕ) → IsValid h.now
     → h.now.content ≡ content → place ≤ length content → now ≡ after_call (Wrote place bytes) h
-    → Leaves (of h) (of now) (After (Torn place (length bytes)) (of h))
+    → LeavesOnly (of h) (of now) (After (Torn place (length bytes)) (of h))
 wrote h now place bytes content v is within e =
-    subst (λ (g : History). Leaves (of h) (of g)
+    subst (λ (g : History). LeavesOnly (of h) (of g)
     (After (Torn place (length bytes)) (of h))) (sym e)
     (write_leaves h place (length bytes) _ v (rw is within))
 
 pub failed_write : (h now : History) (place count : ℕ) (content : List ℕ) → IsValid h.now
     → h.now.content ≡ content → place ≤ length content → now ≡ after_call (FailedWrite place count) h
-    → Leaves (of h) (of now) (After (Torn place count) (of h))
+    → LeavesOnly (of h) (of now) (After (Torn place count) (of h))
 failed_write h now place count content v is within e =
-    subst (λ (g : History). Leaves (of h) (of g)
+    subst (λ (g : History). LeavesOnly (of h) (of g)
     (After (Torn place count) (of h))) (sym e)
     (write_leaves h place count _ v (rw is within))
 
 pub was_cut : (h now : History) (len : ℕ) → IsValid h.now → now ≡ after_call (Cut len) h
-    → Leaves (of h) (of now) (After (CutBack len) (of h))
+    → LeavesOnly (of h) (of now) (After (CutBack len) (of h))
 was_cut h now len v e =
-    subst (λ (g : History). Leaves (of h) (of g)
+    subst (λ (g : History). LeavesOnly (of h) (of g)
     (After (CutBack len) (of h))) (sym e) (cut_leaves h len _ v)
 
 pub failed_cut : (h now : History) (len : ℕ) → IsValid h.now → now ≡ after_call (FailedCut len) h
-    → Leaves (of h) (of now) (After (CutBack len) (of h))
+    → LeavesOnly (of h) (of now) (After (CutBack len) (of h))
 failed_cut h now len v e =
-    subst (λ (g : History). Leaves (of h) (of g)
+    subst (λ (g : History). LeavesOnly (of h) (of g)
     (After (CutBack len) (of h))) (sym e) (cut_leaves h len _ v)
 
 pub synced_leaves : (h now : History) (content : List ℕ) → h.now.content ≡ content
     → now ≡ after_call Synced h
-    → Leaves (of h) (of now) (λ image. Some content ≡ Some image)
+    → LeavesOnly (of h) (of now) (λ image. Some content ≡ Some image)
 synced_leaves h now content is e k image left =
     ⊎_elim (λ was. inl was) (λ same. inr (ap Some (sym is) ∙ same))
     (sync_leaves h k image (subst (λ (g : History). LeftSince g k image) e left))
 
 pub synced_only : (h now : History) (content : List ℕ) → h.now.content ≡ content
-    → now ≡ after_call Synced h → IsSure (state_of content now)
+    → now ≡ after_call Synced h → IsSure (disk_of content now)
 synced_only h now content is e =
-    subst (λ (g : History). IsSure (state_of content g)) (sym e)
-    (subst (λ (c : List ℕ). IsSure (state_of c (after_call Synced h))) is (sync_only h))
+    subst (λ (g : History). IsSure (disk_of content g)) (sym e)
+    (subst (λ (c : List ℕ). IsSure (disk_of c (after_call Synced h))) is (sync_only h))
 
 -- a call that may have been kept
 pub kept_or_not : {T E A B : Type 0} (r : Result T E) → OnOk r A → OnErr r B → A ⊎ B

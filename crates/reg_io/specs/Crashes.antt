@@ -1,6 +1,6 @@
 -- The files that a disk in memory gives as what a crash leaves.
 use Rattle.std.specs.Prelude.{◌≡◌, ℕ, ◌≤◌, true, List, length, map, take, Option, None, Some}
-use Rattle.reg_io.specs.DiskCalls.{History, Stage, fits}
+use Rattle.reg_io.specs.DiskCalls.{History, Stage, all_suit}
 use Rattle.reg_io.specs.declared.crash.CrashImage.{CrashImage}
 use Rattle.reg_io.specs.declared.crash.CrashImage.TheVariants.{AsRead, Confirmed, Scrambled}
 use Rattle.reg_io.specs.declared.crash.Replay.{Replay}
@@ -20,9 +20,9 @@ crash_bytes Scrambled stage = take (length stage.content) (map scrambled stage.b
 -- Private: what a read gives and what was confirmed are among what a crash may leave
 pub record IsValid (stage : Stage) : Type 0 where
   pub low : stage.least ≤ length stage.content
-  pub fitting : fits stage.bytes stage.content ≡ true
+  pub fitting : all_suit stage.bytes stage.content ≡ true
   pub confirmed_low : stage.least ≤ length stage.confirmed
-  pub confirmed_fitting : fits stage.bytes stage.confirmed ≡ true
+  pub confirmed_fitting : all_suit stage.bytes stage.confirmed ≡ true
 
 -- Private: the lists that stand for the stage of now while calls are replayed
 pub record Follows (replay : Replay) (h : History) : Type 0 where

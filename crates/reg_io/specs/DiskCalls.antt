@@ -20,20 +20,20 @@ pub record Stage : Type 0 where
   pub least : ℕ
 
 -- the byte is the one that is sure, or none is
-abbrev pub suits : Option ℕ → ℕ → Bool
-suits None byte = true
-suits (Some sure) byte = byte == sure
+abbrev pub is_suited : Option ℕ → ℕ → Bool
+is_suited None byte = true
+is_suited (Some sure) byte = byte == sure
 
 -- the bytes are a front of those that may be there
-abbrev pub fits : List (Option ℕ) → List ℕ → Bool
-fits sure [] = true
-fits [] (b ∷ image) = false
-fits (s ∷ sure) (b ∷ image) = suits s b && fits sure image
+abbrev pub all_suit : List (Option ℕ) → List ℕ → Bool
+all_suit sure [] = true
+all_suit [] (b ∷ image) = false
+all_suit (s ∷ sure) (b ∷ image) = is_suited s b && all_suit sure image
 
 -- a crash in this stage may leave these bytes
 pub record IsImage (stage : Stage) (image : List ℕ) : Type 0 where
   pub long : stage.least ≤ length image
-  pub fitting : fits stage.bytes image ≡ true
+  pub fitting : all_suit stage.bytes image ≡ true
 
 -- all is sure
 abbrev pub sure_of : List ℕ → Stage
@@ -117,8 +117,8 @@ abbrev pub LeftSince : History → ℕ → List ℕ → Type 0
 LeftSince h k image = (k ≤ length h.before) × LeftBefore k (h.now ∷ h.before) image
 
 -- a disk of these bytes that has had these stages
-abbrev pub state_of : List ℕ → History → DiskState
-state_of content h = record {
+abbrev pub disk_of : List ℕ → History → DiskState
+disk_of content h = record {
   content = Some content;
   syncs = length h.before;
   left_since = LeftSince h;

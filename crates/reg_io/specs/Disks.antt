@@ -26,8 +26,8 @@ abbrev pub IsSure : DiskState → Type 0
 IsSure disk = (image : List ℕ) → MayLeave disk image → disk.content ≡ Some image
 
 -- what a crash at any moment might have left is what it might have left before, or has P
-abbrev pub Leaves : DiskState → DiskState → (List ℕ → Type 0) → Type 0
-Leaves old new P =
+abbrev pub LeavesOnly : DiskState → DiskState → (List ℕ → Type 0) → Type 0
+LeavesOnly old new P =
     (k : ℕ) (image : List ℕ) → new.left_since k image → old.left_since k image ⊎ P image
 
 -- bytes that a crash might have left before, after a step
@@ -41,8 +41,8 @@ pub record Stays (old new : DiskState) : Type 0 where
   pub leaves : (k : ℕ) (image : List ℕ) → new.left_since k image → old.left_since k image
 
 -- the place is not behind the end, where the bytes are told
-abbrev pub IsWithin : ℕ → DiskState → Type 0
-IsWithin place disk = IfSome disk.content (λ bytes. place ≤ length bytes)
+abbrev pub LiesWithin : ℕ → DiskState → Type 0
+LiesWithin place disk = IfSome disk.content (λ bytes. place ≤ length bytes)
 
 -- the bytes with these at a place, over what is there and behind the end
 abbrev pub put_at : {A : Type 0} → ℕ → List A → List A → List A

@@ -4,7 +4,7 @@
 //! of now do not tell which of them the last sync confirmed.
 ghost use Rattle.std.specs.Prelude.{◌≡◌, ◌≤◌, ℕ, IfOk, OnOk, min, replicate, vec_len};
 ghost use Rattle.reg_io.specs.Crashes.{Follows, crash_bytes};
-ghost use Rattle.reg_io.specs.DiskCalls.{History, after_call, history_of, state_of};
+ghost use Rattle.reg_io.specs.DiskCalls.{History, after_call, history_of, disk_of};
 ghost use Rattle.reg_io.specs.Disks.{MayLeave, put_at};
 ghost use Rattle.reg_io.specs.declared.disk_call.DiskCall.TheVariants.{FailedWrite, Synced, Wrote};
 
@@ -29,7 +29,7 @@ impl MemoryDisk {
     pub fn after_crash(&self, image: CrashImage) -> Result<Vec<u8>, AllocError>
         ensures value { IfOk result (λ bytes. bytes.items ≡ crash_bytes image
             (history_of self.now.first self.now.calls.items).now) }
-        ensures left { IfOk result (λ bytes. MayLeave (state_of self.now.bytes.items
+        ensures left { IfOk result (λ bytes. MayLeave (disk_of self.now.bytes.items
             (history_of self.now.first self.now.calls.items)) bytes.items) }
     {
         let replay = replayed(self.alloc, self.first.as_slice(), self.calls.as_slice())?;

@@ -8,8 +8,8 @@ ghost use Rattle.reg_io.specs.Disks.{
   CutBack,
   DiskState,
   IsSure,
-  IsWithin,
-  Leaves,
+  LiesWithin,
+  LeavesOnly,
   MayLeave,
   NoneIsLater,
   Stays,
@@ -42,7 +42,7 @@ pub trait Disk {
 
     /// Fills the room with the bytes from this place on.
     fn read(&mut self, place: u64, into: &mut [u8]) -> Result<(), Failed>
-        requires { IsWithin (place + length into.old) (state self.old) }
+        requires { LiesWithin (place + length into.old) (state self.old) }
         ensures bytes { OnOk result (IfSome (state self.old).content
             (λ bytes. into.new ≡ take (length into.old) (drop place bytes))) }
         ensures stays { Stays (state self.old) (state self.new) }
@@ -52,12 +52,12 @@ pub trait Disk {
     /// Puts the bytes at this place, over what is there and behind the end. Until the next sync
     /// that succeeds, a crash may leave anything there, also where the call failed.
     fn write_at(&mut self, place: u64, bytes: &[u8]) -> Result<(), Failed>
-        requires { IsWithin place (state self.old) }
+        requires { LiesWithin place (state self.old) }
         ensures written { OnOk result ((state self.new).content
             ≡ option_map (put_at place bytes.now) (state self.old).content) }
         ensures told { is_some (state self.new).content ≡ is_some (state self.old).content }
         ensures shown { IfSome (state self.new).content (MayLeave (state self.new)) }
-        ensures leaves { Leaves (state self.old) (state self.new)
+        ensures leaves { LeavesOnly (state self.old) (state self.new)
             (After (Torn place (length bytes.now)) (state self.old)) }
         ensures syncs { (state self.new).syncs ≡ (state self.old).syncs }
         ensures cause { HasCause (faults self.old) (faults self.new) result }
@@ -66,12 +66,12 @@ pub trait Disk {
     /// Takes away all bytes from this length on. Until the next sync that succeeds, a crash may
     /// leave some of them.
     fn cut(&mut self, len: u64) -> Result<(), Failed>
-        requires { IsWithin len (state self.old) }
+        requires { LiesWithin len (state self.old) }
         ensures shortened { OnOk result ((state self.new).content
             ≡ option_map (take len) (state self.old).content) }
         ensures told { is_some (state self.new).content ≡ is_some (state self.old).content }
         ensures shown { IfSome (state self.new).content (MayLeave (state self.new)) }
-        ensures leaves { Leaves (state self.old) (state self.new)
+        ensures leaves { LeavesOnly (state self.old) (state self.new)
             (After (CutBack len) (state self.old)) }
         ensures syncs { (state self.new).syncs ≡ (state self.old).syncs }
         ensures cause { HasCause (faults self.old) (faults self.new) result }
@@ -81,7 +81,7 @@ pub trait Disk {
     fn sync(&mut self) -> Result<(), Failed>
         ensures content { (state self.new).content ≡ (state self.old).content }
         ensures sure { OnOk result (IsSure (state self.new)) }
-        ensures leaves { Leaves (state self.old) (state self.new)
+        ensures leaves { LeavesOnly (state self.old) (state self.new)
             (λ image. (state self.new).content ≡ Some image) }
         ensures later { (state self.old).syncs ≤ (state self.new).syncs }
         ensures syncs { IfSome (state self.old).content (λ _. (state self.new).syncs

@@ -1,6 +1,6 @@
 //! Disks in memory: one that fails only where it can't grow, and one whose calls fail by a list.
 ghost use Rattle.std.specs.Prelude.{◌≡◌, ◌+◌, ◌-◌, ◌^◌, min, ◌≤◌, ◌++◌, [], ◌∷◌, Some, take, length, vec_len, OnOk, OnErr, IfOk};
-ghost use Rattle.reg_io.specs.DiskCalls.{history_of, state_of};
+ghost use Rattle.reg_io.specs.DiskCalls.{history_of, disk_of};
 ghost use Rattle.reg_io.specs.Counts.{Rose};
 ghost use Rattle.reg_io.specs.Disks.{put_at};
 ghost use Rattle.reg_io.specs.declared.disk_call.DiskCall.TheVariants.{Cut, Wrote};
@@ -148,7 +148,7 @@ fn overwrite(
 }
 
 impl Disk for MemoryDisk {
-    ghost state = { λ d. state_of d.bytes.items (history_of d.first d.calls.items) };
+    ghost state = { λ d. disk_of d.bytes.items (history_of d.first d.calls.items) };
 
     ghost none_is_later = { λ d k image left. left.0 };
 
@@ -203,7 +203,7 @@ impl FailingDisk {
 }
 
 impl Disk for FailingDisk {
-    ghost state = { λ d. state_of d.disk.bytes.items (history_of d.disk.first d.disk.calls.items) };
+    ghost state = { λ d. disk_of d.disk.bytes.items (history_of d.disk.first d.disk.calls.items) };
 
     ghost none_is_later = { λ d k image left. left.0 };
 

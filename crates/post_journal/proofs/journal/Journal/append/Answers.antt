@@ -1,6 +1,6 @@
 use Rattle.std.proofs.Common.{◌∙◌, ℕ, ap, subst, sym, refl, arith}
 use Rattle.post_journal.specs.Images.{behind_gate}
-use Rattle.post_journal.specs.Journals.{Fits, JournalState, Stands}
+use Rattle.post_journal.specs.Journals.{FitsBehind, JournalState, Stands}
 use Rattle.post_journal.proofs.AppendSteps.{cut_off, gate_within, grows_appended, shows_append, stands_appended}
 use Rattle.post_journal.proofs.ForAbove.{grows_cut}
 use Rattle.post_journal.proofs.journal.Journal.append.Goals as goal
@@ -19,7 +19,7 @@ returns-in_err-open_behind-clause-grows g c =
     let payload = c.args.payload.now.bytes in
     let same = ap (λ (v : JournalState). v.end) c.self.view_is in
     let stands = subst (λ (n : ℕ). Stands n old) (sym same) c.requires.stands in
-    let fits = subst (λ (n : ℕ). Fits n payload) (sym same) c.requires.fits in
+    let fits = subst (λ (n : ℕ). FitsBehind n payload) (sym same) c.requires.fits in
     let is = c.put_behind.ensures ∙ ap behind_gate c.as_slice.ensures in
     cut_off _ old new payload c.from_residual.result c.from_residual.ensures.1
     (grows_cut old new payload (g.D.Disk.none_is_later c.args.disk.now) stands.sure
@@ -32,7 +32,7 @@ returns-clause-grows g c =
     let payload = c.args.payload.now.bytes in
     let same = ap (λ (v : JournalState). v.end) c.self.view_is in
     let stands = subst (λ (n : ℕ). Stands n old) (sym same) c.requires.stands in
-    let fits = subst (λ (n : ℕ). Fits n payload) (sym same) c.requires.fits in
+    let fits = subst (λ (n : ℕ). FitsBehind n payload) (sym same) c.requires.fits in
     let is = c.put_behind.ensures ∙ ap behind_gate c.as_slice.ensures in
     let done = c.in_ok-open_behind.ensures in
     grows_appended old new c.self.inside.end payload _ stands fits is c.open_behind.ensures.shows
@@ -45,7 +45,7 @@ returns-clause-ends g c =
     let payload = c.args.payload.now.bytes in
     let same = ap (λ (v : JournalState). v.end) c.self.view_is in
     let stands = subst (λ (n : ℕ). Stands n old) (sym same) c.requires.stands in
-    let fits = subst (λ (n : ℕ). Fits n payload) (sym same) c.requires.fits in
+    let fits = subst (λ (n : ℕ). FitsBehind n payload) (sym same) c.requires.fits in
     let is = c.put_behind.ensures ∙ ap behind_gate c.as_slice.ensures in
     let done = c.in_ok-open_behind.ensures in
     record {
