@@ -10,8 +10,8 @@ use std::io;
 use std::os::unix::fs::FileExt;
 use std::rt::Files;
 
-/// A file of a runtime, opened at the first call, and made where there is none. What it holds is not
-/// told.
+/// A file of a runtime, opened at the first call, and made where there is none. What it holds is
+/// not told.
 #[derive(Drop)]
 pub struct JournalFile<'a, R: Files> {
     files: &'a R,
