@@ -1,5 +1,5 @@
 -- Appends one after another.
-use Rattle.std.proofs.Common.{◌≡◌, ℕ, ◌+◌, ◌<◌, ◌≤◌, List, [], ◌∷◌, ◌++◌, length, map, take, get_or, refl, sym, ◌∙◌, ap, subst}
+use Rattle.std.proofs.Common.{◌≡◌, ℕ, ◌+◌, ◌<◌, ◌≤◌, List, [], ◌∷◌, ◌++◌, length, take, get_or, sym, ◌∙◌, ap, subst}
 use Rattle.std.proofs.lemmas.List.{map-append, take_all, take_more}
 use Rattle.reg_io.specs.Disks.{DiskState}
 use Rattle.post_journal.specs.Journals.{Grows}
