@@ -5,9 +5,9 @@ use crate::line_tests::{failing, is_shown, source};
 use crate::rows::expect;
 use reg_base::{List, Text};
 use reg_io::{
-    Device, Disk, Failed, FailingShelf, FailingSink, FailingSource, Folder, Lines, MemoryDisk,
-    MemoryShelf, MemorySink, MemorySource, ReaderSource, Shelf, ShelfFault, Sink, SinkFault,
-    Source, WriterSink, write_all,
+    Device, Failed, FailingShelf, FailingSink, FailingSource, Folder, Lines, MemoryShelf,
+    MemorySink, MemorySource, ReaderSource, Shelf, ShelfFault, Sink, SinkFault, Source, WriterSink,
+    write_all,
 };
 use std::alloc::{AllocError, Global};
 use std::io::{Read, Write};
@@ -103,37 +103,6 @@ fn files_are_read_up_to_their_limit(rt: HostRuntime) -> Result<(), Fail> {
         expect(&rt, faults, shelf.shelf.faults == *faults);
     }
     Ok(())
-}
-
-// Whether bytes are written at the front of a disk, over others and behind them.
-fn keeps_bytes(disk: &mut MemoryDisk) -> bool {
-    disk.write_at(0, b"abcd").is_ok()
-        && disk.len() == Ok(4)
-        && disk.bytes.len() == 4
-        && disk.write_at(2, b"XYZ").is_ok()
-        && disk.bytes.as_slice() == b"abXYZ".as_slice()
-}
-
-// Whether bytes in the middle of those are read.
-fn reads_bytes(disk: &mut MemoryDisk) -> bool {
-    let mut room = [0; 3];
-    disk.bytes.len() == 5 && disk.read(1, &mut room).is_ok() && room == *b"bXY"
-}
-
-// Whether a disk loses what stands behind its first byte.
-fn is_cut(disk: &mut MemoryDisk) -> bool {
-    disk.bytes.len() == 5
-        && disk.cut(1).is_ok()
-        && disk.sync().is_ok()
-        && disk.bytes.as_slice() == b"a".as_slice()
-}
-
-#[test]
-fn a_disk_keeps_what_was_written_over_and_behind(rt: HostRuntime) {
-    let mut disk = MemoryDisk::new(rt.alloc());
-    expect(&rt, &"writing", keeps_bytes(&mut disk));
-    expect(&rt, &"reading", reads_bytes(&mut disk));
-    expect(&rt, &"cutting", is_cut(&mut disk));
 }
 
 // A reader and a writer of std whose second call fails, and whose third takes nothing.

@@ -13,6 +13,8 @@
 #[cfg(test)]
 mod device_tests;
 #[cfg(test)]
+mod disk_tests;
+#[cfg(test)]
 mod line_tests;
 #[cfg(test)]
 mod rows;

@@ -1,8 +1,10 @@
 pub mod Counts
+pub mod Crashes
+pub mod DiskCalls
+pub mod Disks
 pub mod LineReaders
 pub mod FailingCalls
 pub mod Files
 pub mod LineStates
 pub mod Lines
-pub mod Sizes
 pub mod Windows

@@ -1,0 +1,11 @@
+pub mod AppendSteps
+pub mod Begins
+pub mod ForAbove
+pub mod GateSteps
+pub mod Gates
+pub mod OpenSteps
+pub mod Pieces
+pub mod ReadRuns
+pub mod Runs
+pub mod Shows
+pub mod WorkedRows
