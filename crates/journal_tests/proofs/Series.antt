@@ -1,5 +1,6 @@
 -- Appends one after another.
-use Rattle.std.proofs.Common.{◌≡◌, ℕ, ◌+◌, ◌<◌, ◌≤◌, List, [], ◌∷◌, ◌++◌, length, take, get_or, sym, ◌∙◌, ap, subst}
+use Rattle.std.proofs.Common.{◌≡◌, ℕ, ◌+◌, ◌<◌, ◌≤◌, List, [], ◌∷◌, ◌++◌, length, take, get_or, sym}
+use Rattle.std.proofs.Common.{◌∙◌, ap, subst}
 use Rattle.std.proofs.lemmas.List.{map-append, take_all, take_more}
 use Rattle.reg_io.specs.Disks.{DiskState}
 use Rattle.post_journal.specs.Journals.{Grows}
@@ -20,7 +21,8 @@ pub grows_next : (first mid now : DiskState) (entries : List Payload) (entry : P
     → Grows first mid (payloads (take i entries)) [] → Grows mid now (entry.bytes ∷ []) []
     → Grows first now (payloads (take (i + 1) entries)) []
 grows_next first mid now entries entry i within is so_far next =
-    subst (λ (l : List (List ℕ)). Grows first now l []) (sym (next_payloads entries entry i within is))
+    subst (λ (l : List (List ℕ)). Grows first now l [])
+    (sym (next_payloads entries entry i within is))
     (grows_more first mid now (payloads (take i entries)) (entry.bytes ∷ []) [] so_far next)
 
 pub grows_all : (first now : DiskState) (entries : List Payload) (i : ℕ) → length entries ≤ i

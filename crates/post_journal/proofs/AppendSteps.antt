@@ -1,10 +1,13 @@
 -- From what stands behind a gate to the entries of a journal.
-use Rattle.std.proofs.Common.{◌≡◌, inl, inr, ⊎_elim, ℕ, ◌+◌, ◌<◌, List, [], ◌∷◌, ◌++◌, length, Option, None, Some, IfSome, Result, Ok, Err, IsErrAnd, sym, ◌∙◌, ap, subst, arith}
+use Rattle.std.proofs.Common.{◌≡◌, inl, inr, ⊎_elim, ℕ, ◌+◌, ◌<◌, List, [], ◌∷◌, ◌++◌, length}
+use Rattle.std.proofs.Common.{Option, None, Some, IfSome, Result, Ok, Err, IsErrAnd, sym, ◌∙◌, ap}
+use Rattle.std.proofs.Common.{subst, arith}
 use Rattle.std.specs.Option.{option_map}
 use Rattle.reg_io.specs.Disks.{DiskState, IsSure}
 use Rattle.post_journal.specs.Gates.{IsBehindGate}
 use Rattle.post_journal.specs.Images.{behind_gate, entries_held, image_of, with_gate}
-use Rattle.post_journal.specs.Journals.{FitsBehind, Grows, GrowsBy, HasAll, HasSome, RunsTo, ShowsOnly, Stands}
+use Rattle.post_journal.specs.Journals.{FitsBehind, Grows, GrowsBy, HasAll, HasSome, RunsTo}
+use Rattle.post_journal.specs.Journals.{ShowsOnly, Stands}
 use Rattle.post_journal.proofs.ForAbove.{none_more, grows_by}
 use Rattle.post_journal.proofs.Gates.{ends_at, gate_image, opened_image, torn_behind}
 use Rattle.post_journal.proofs.Shows.{shows_by}
@@ -54,7 +57,8 @@ one_more (Some c) new end payload run fits e =
     let is = opened_image c payload run.0 end run.1 fits.some fits.most fits.low in
     subst (λ (n : Option (List ℕ)). IfSome n (HasAll (Some c) (payload ∷ []))
     × IfSome n (RunsTo (end + (5 + length payload)))) (sym e) (
-      ap entries_held is ∙ sym (ap (option_map (λ entries. entries ++ payload ∷ [])) (ap entries_held run.1)),
+      ap entries_held is
+          ∙ sym (ap (option_map (λ entries. entries ++ payload ∷ [])) (ap entries_held run.1)),
       (run.0 ++ payload ∷ [], is),
     )
 
@@ -76,7 +80,8 @@ pub grows_appended : (old new : DiskState) (end : ℕ) (payload behind : List �
 grows_appended old new end payload behind stands fits is shows ok sure =
     let all = one_more old.content new.content end payload stands.run fits
     (subst (λ (b : List ℕ). new.content ≡ option_map (with_gate end 1 b) old.content) is ok) in
-    grows_by old new payload (shows_append old new end payload behind stands fits is shows) all.0 sure
+    grows_by old new payload (shows_append old new end payload behind stands fits is shows) all.0
+    sure
 
 -- the journal behind it
 pub stands_appended : (old new : DiskState) (end : ℕ) (payload behind : List ℕ) → Stands end old

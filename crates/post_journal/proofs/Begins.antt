@@ -1,5 +1,7 @@
 -- What a file is while it is begun.
-use Rattle.std.proofs.Common.{◌≡◌, inl, inr, ℕ, ◌≤◌, Bool, true, false, List, [], ◌∷◌, ◌++◌, length, drop, Option, None, Some, IfSome, Result, Ok, Err, OnOk, ◌<◌, refl, sym, ◌∙◌, ap, subst, arith}
+use Rattle.std.proofs.Common.{◌≡◌, inl, inr, ℕ, ◌≤◌, Bool, true, false, List, [], ◌∷◌, ◌++◌, length}
+use Rattle.std.proofs.Common.{drop, Option, None, Some, IfSome, Result, Ok, Err, OnOk, ◌<◌, refl}
+use Rattle.std.proofs.Common.{sym, ◌∙◌, ap, subst, arith}
 use Rattle.std.specs.Prelude.{codes, not}
 use Rattle.std.proofs.lemmas.Bool.{and_from, or_left, or_right, cases_eq, le-leb, ne_eqb}
 use Rattle.std.proofs.lemmas.List.{drop_all}
@@ -7,7 +9,8 @@ use Rattle.std.specs.Option.{option_map}
 use Rattle.reg_io.specs.Disks.{DiskState, IsSure, Torn, put_at}
 use Rattle.post_journal.specs.Gates.{HasNoEntries, IsBehindGate, IsClosedFile, IsTornPut}
 use Rattle.post_journal.specs.Journals.{RunsTo, Stands}
-use Rattle.post_journal.specs.Images.{entries_held, fresh, holds, image_by, image_of, is_begun, is_fresh, is_open, run_from, with_gate}
+use Rattle.post_journal.specs.Images.{entries_held, fresh, holds, image_by, image_of, is_begun}
+use Rattle.post_journal.specs.Images.{is_fresh, is_open, run_from, with_gate}
 use Rattle.post_journal.proofs.Gates.{image_is, open_by}
 
 -- what stands behind the gate byte of the first entry
@@ -16,12 +19,15 @@ first_behind = 0 ∷ 0 ∷ 0 ∷ 17 ∷ (codes "regdesk journal 1" ++ 0 ∷ [])
 
 pub fresh_by : (image : List ℕ) → is_fresh image ≡ true → image_of image ≡ fresh
 fresh_by image is =
-    image_is image ∙ ap (λ (b : Bool). image_by b (is_begun image) (run_from (length image) 22 (drop 22 image))) is
+    image_is image
+    ∙ ap (λ (b : Bool). image_by b (is_begun image) (run_from (length image) 22 (drop 22
+    image))) is
 
 pub small_fresh : (image : List ℕ) → length image ≤ 1 → image_of image ≡ fresh
 small_fresh image small = fresh_by image (or_left _ _ (le-leb (length image) 1 small))
 
-pub closed_fresh : (image : List ℕ) → length image ≤ 23 → is_open image ≡ false → image_of image ≡ fresh
+pub closed_fresh : (image : List ℕ) → length image ≤ 23 → is_open image ≡ false → image_of image
+    ≡ fresh
 closed_fresh image small shut =
     fresh_by image (or_right _ _ (and_from _ _ (le-leb (length image) 23 small) (ap not shut)))
 
@@ -35,10 +41,12 @@ begun_whole : image_of (1 ∷ first_behind) ≡ holds [] 22
 unfolding image_of run_from
 begun_whole = refl
 
-with_first : (c : List ℕ) (gate : ℕ) → length c ≤ 23 → with_gate 0 gate first_behind c ≡ gate ∷ first_behind
+with_first : (c : List ℕ) (gate : ℕ) → length c ≤ 23 → with_gate 0 gate first_behind c
+    ≡ gate ∷ first_behind
 with_first c gate small = ap (λ (l : List ℕ). gate ∷ (first_behind ++ l)) (drop_all 23 c small)
 
-pub gate_begun : (c : List ℕ) → length c ≤ 23 → image_of (with_gate 0 1 first_behind c) ≡ holds [] 22
+pub gate_begun : (c : List ℕ) → length c ≤ 23 → image_of (with_gate 0 1 first_behind c)
+    ≡ holds [] 22
 gate_begun c small = ap image_of (with_first c 1 small) ∙ begun_whole
 
 pub gate_fresh : (c : List ℕ) (gate : ℕ) → length c ≤ 23

@@ -1,5 +1,7 @@
 -- What the crates above need: runs of a journal, one behind another.
-use Rattle.std.proofs.Common.{◌≡◌, inl, ℕ, zero, suc, ◌+◌, List, [], ◌∷◌, ◌++◌, length, take, Option, None, Some, IfSome, refl, sym, ◌∙◌, ap, subst, arith, append_assoc, append-nil, length-append, ⊎_elim}
+use Rattle.std.proofs.Common.{◌≡◌, inl, ℕ, zero, suc, ◌+◌, List, [], ◌∷◌, ◌++◌, length, take}
+use Rattle.std.proofs.Common.{Option, None, Some, IfSome, refl, sym, ◌∙◌, ap, subst, arith}
+use Rattle.std.proofs.Common.{append_assoc, append-nil, length-append, ⊎_elim}
 use Rattle.std.specs.Option.{is_some, option_map}
 use Rattle.std.proofs.lemmas.Bool.{false≢true}
 use Rattle.std.proofs.lemmas.Option.{same_Some}
@@ -13,7 +15,8 @@ use Rattle.post_journal.proofs.Shows.{if_some, then, weaker}
 -- ---- entries behind entries
 
 more_entries : (o : Option (List (List ℕ))) (xs ys : List (List ℕ))
-    → option_map (λ es. es ++ ys) (option_map (λ es. es ++ xs) o) ≡ option_map (λ es. es ++ (xs ++ ys)) o
+    → option_map (λ es. es ++ ys) (option_map (λ es. es ++ xs) o)
+    ≡ option_map (λ es. es ++ (xs ++ ys)) o
 more_entries None xs ys = refl
 more_entries (Some es) xs ys = ap Some (append_assoc es xs ys)
 
@@ -59,7 +62,8 @@ take-none (suc n) = refl
 pub all_of_some : (content : Option (List ℕ)) (done : List (List ℕ)) (image : List ℕ)
     → HasSome content done [] image → HasAll content done image
 all_of_some content done image has =
-    subst (λ l. HasAll content l image) (ap (λ l. done ++ l) (take-none has.0) ∙ append-nil done) has.2
+    subst (λ l. HasAll content l image) (ap (λ l. done ++ l) (take-none has.0)
+    ∙ append-nil done) has.2
 
 pub all_some : (content : Option (List ℕ)) (done : List (List ℕ)) (image : List ℕ)
     → HasAll content done image → HasSome content done [] image
@@ -98,14 +102,17 @@ grows_more first mid now xs ys flight so next =
     let assoc = append_assoc xs ys flight in
     record {
       moments = then first mid now
-          (weaker first mid so.moments (λ image has. subst (λ l. HasSome first.content [] l image) (sym assoc)
+          (weaker first mid so.moments (λ image has. subst (λ l. HasSome first.content [] l image)
+          (sym assoc)
           (some_wider first.content [] xs (ys ++ flight) image
           (subst (λ l. HasSome first.content [] l image) (append-nil xs) has))))
           next.moments
           (λ image has. subst (λ l. HasSome first.content [] l image) (sym assoc)
           (front_more first.content mid.content xs (ys ++ flight) image so.told all has));
-      shown = if_some now.content (λ image has. some_more first.content mid.content xs ys flight image so.told all has) next.shown;
-      kept = λ image left. some_more first.content mid.content xs ys flight image so.told all (next.kept image left);
+      shown = if_some now.content (λ image has. some_more first.content mid.content xs ys flight
+          image so.told all has) next.shown;
+      kept = λ image left. some_more first.content mid.content xs ys flight image so.told all
+          (next.kept image left);
       told = next.told ∙ so.told;
       later = omega (arith, so.later, next.later);
     }
@@ -121,7 +128,8 @@ pub grows_none : (disk : DiskState) → IsSure disk → Grows disk disk [] []
 grows_none disk sure = record {
   moments = λ k image left. inl left;
   shown = shown_same disk.content;
-  kept = λ image left. all_some disk.content [] image (all_same disk.content image (sure image left));
+  kept = λ image left. all_some disk.content [] image (all_same disk.content image (sure image
+      left));
   told = refl;
   later = omega arith;
 }
@@ -167,8 +175,10 @@ grows_cut old now payload no_later sure shows = record {
   later = shows.later;
 }
   where
-    was : (image : List ℕ) → old.left_since now.syncs image → HasSome old.content [] (payload ∷ []) image
+    was : (image : List ℕ) → old.left_since now.syncs image
+        → HasSome old.content [] (payload ∷ []) image
     was image left =
-        let same : now.syncs ≡ old.syncs = omega (arith, no_later now.syncs image left, shows.later) in
+        let same : now.syncs ≡ old.syncs =
+        omega (arith, no_later now.syncs image left, shows.later) in
         let here : MayLeave old image = subst (λ (k : ℕ). old.left_since k image) same left in
         (0, omega arith, all_same old.content image (sure image here))

@@ -1,9 +1,13 @@
 -- What a disk holds, and what a crash may leave, while bytes are written and a gate is opened.
-use Rattle.std.proofs.Common.{◌≡◌, inl, inr, ⊎_elim, ℕ, ◌+◌, ◌<◌, ◌≤◌, List, [], ◌∷◌, ◌++◌, length, get_or, take, drop, Option, None, Some, IfSome, refl, sym, ◌∙◌, ap, subst, arith, length-append, take-append-drop}
+use Rattle.std.proofs.Common.{◌≡◌, inl, inr, ⊎_elim, ℕ, ◌+◌, ◌<◌, ◌≤◌, List, [], ◌∷◌, ◌++◌, length}
+use Rattle.std.proofs.Common.{get_or, take, drop, Option, None, Some, IfSome, refl, sym, ◌∙◌, ap}
+use Rattle.std.proofs.Common.{subst, arith, length-append, take-append-drop}
 use Rattle.std.specs.Option.{is_some, option_map}
 use Rattle.std.proofs.lemmas.Option.{same_Some}
-use Rattle.std.proofs.lemmas.List.{drop_at, drop_more, drop-drop, length-drop, take_at, take-take, take-append-le, length-take-le}
-use Rattle.reg_io.specs.Disks.{After, DiskState, IsSure, LiesWithin, LeavesOnly, MayLeave, Torn, put_at}
+use Rattle.std.proofs.lemmas.List.{drop_at, drop_more, drop-drop, length-drop, take_at, take-take}
+use Rattle.std.proofs.lemmas.List.{take-append-le, length-take-le}
+use Rattle.reg_io.specs.Disks.{After, DiskState, IsSure, LiesWithin, LeavesOnly, MayLeave, Torn}
+use Rattle.reg_io.specs.Disks.{put_at}
 use Rattle.post_journal.specs.Images.{with_gate}
 use Rattle.post_journal.specs.Gates.{IsBehindGate, IsTornPut}
 use Rattle.post_journal.specs.Journals.{ShowsOnly}
@@ -57,7 +61,8 @@ torn_after disk place count sure image after =
   where
     at : (o : Option (List ℕ)) → o ≡ Some after.0 → IsTornPut place count o image
     at None is = tt
-    at (Some c) is = subst (λ (d : List ℕ). Torn place count d image) (sym (same_Some c after.0 is)) after.2
+    at (Some c) is =
+        subst (λ (d : List ℕ). Torn place count d image) (sym (same_Some c after.0 is)) after.2
 
 -- a write that no sync has followed
 pub shows_write : (old new : DiskState) (place count : ℕ) → IsSure old

@@ -1,16 +1,21 @@
 -- From how a file begins to what it is.
-use Rattle.std.proofs.Common.{◌≡◌, ◌⊎◌, inl, inr, ⊎_elim, ℕ, ◌≤◌, Bool, true, false, List, [], ◌∷◌, length, drop, Option, None, Some, IfSome, Ok, Err, refl, sym, ◌∙◌, ap, subst, arith}
+use Rattle.std.proofs.Common.{◌≡◌, ◌⊎◌, inl, inr, ⊎_elim, ℕ, ◌≤◌, Bool, true, false, List, [], ◌∷◌}
+use Rattle.std.proofs.Common.{length, drop, Option, None, Some, IfSome, Ok, Err, refl, sym, ◌∙◌, ap}
+use Rattle.std.proofs.Common.{subst, arith}
 use Rattle.std.specs.Prelude.{nat_le, ◌==◌, if◌then◌else◌}
-use Rattle.std.proofs.lemmas.Bool.{true≢false, and_parts, or_cases, eqb-true, leb-true, not-true, lt-leb}
+use Rattle.std.proofs.lemmas.Bool.{true≢false, and_parts, or_cases, eqb-true, leb-true, not-true}
+use Rattle.std.proofs.lemmas.Bool.{lt-leb}
 use Rattle.reg_io.specs.Disks.{DiskState}
-use Rattle.post_journal.specs.Images.{entries_held, fresh, image_by, image_of, is_begun, is_fresh, is_open, not_a_journal, run_from}
+use Rattle.post_journal.specs.Images.{entries_held, fresh, image_by, image_of, is_begun, is_fresh}
+use Rattle.post_journal.specs.Images.{is_open, not_a_journal, run_from}
 use Rattle.post_journal.specs.Gates.{HasNoEntries, IsClosedFile, IsContent, IsEmptyJournal}
 use Rattle.post_journal.specs.Journals.{HasAll, Keeps, RunsTo, ShowsOnly}
 use Rattle.post_journal.specs.Openings.{EndsRun, OpensAs, beginning_of, closes_first, payloads}
 use Rattle.post_journal.specs.declared.beginning.Beginning.{Beginning}
 use Rattle.post_journal.specs.declared.beginning.Beginning.TheVariants.{Empty, Fresh, Begun, Other}
 use Rattle.post_journal.specs.declared.fault.OpenFault.{OpenFault}
-use Rattle.post_journal.specs.declared.fault.OpenFault.TheVariants.{NotAJournal, BadEntry, DiskFault, Memory}
+use Rattle.post_journal.specs.declared.fault.OpenFault.TheVariants.{NotAJournal, BadEntry}
+use Rattle.post_journal.specs.declared.fault.OpenFault.TheVariants.{DiskFault, Memory}
 use Rattle.post_journal.specs.declared.journal.Payload.{Payload}
 use Rattle.post_journal.proofs.Begins.{fresh_by}
 use Rattle.post_journal.proofs.ForAbove.{all_same, none_more}
@@ -56,7 +61,8 @@ small_by bytes is = ⊎_elim
     (λ one. omega (arith, eqb-true (length bytes) 1 (and_parts (length bytes == 1) _ one).0))
     (or_cases (length bytes == 0) _ is)
 
-closed_by : (bytes : List ℕ) → is_fresh bytes ≡ true → closes_first bytes ≡ false → IsClosedFile bytes
+closed_by : (bytes : List ℕ) → is_fresh bytes ≡ true → closes_first bytes ≡ false
+    → IsClosedFile bytes
 closed_by [] old closes = absurd (true≢false closes)
 closed_by (b ∷ []) old closes = record { some = omega arith; small = omega arith; shut = closes }
 closed_by (b ∷ c ∷ bytes) old closes =

@@ -1,14 +1,22 @@
 -- A run of entries, read one by one.
-use Rattle.std.proofs.Common.{◌≡◌, ◌⊎◌, min, inl, inr, ℕ, zero, suc, ◌+◌, ◌-◌, ◌<◌, ◌≤◌, Bool, true, false, List, [], ◌∷◌, ◌++◌, length, take, drop, Option, None, Some, IfSome, Result, Ok, Err, IsErr, IsErrAnd, refl, sym, ◌∙◌, ap, subst, arith, length-drop}
+use Rattle.std.proofs.Common.{◌≡◌, ◌⊎◌, min, inl, inr, ℕ, zero, suc, ◌+◌, ◌-◌, ◌<◌, ◌≤◌, Bool, true}
+use Rattle.std.proofs.Common.{false, List, [], ◌∷◌, ◌++◌, length, take, drop, Option, None, Some}
+use Rattle.std.proofs.Common.{IfSome, Result, Ok, Err, IsErr, IsErrAnd, refl, sym, ◌∙◌, ap, subst}
+use Rattle.std.proofs.Common.{arith, length-drop}
 use Rattle.std.proofs.lemmas.Bool.{false≢true}
 use Rattle.std.proofs.lemmas.List.{append-nil, drop-drop, map-append, take_at, take_min}
-use Rattle.post_journal.specs.Images.{Image, bad_entry, journal_length, entry_then, gate_then, holds, is_open, is_whole, payload_of, run_from, told_length, with_entry}
-use Rattle.post_journal.specs.Openings.{EndsRun, FindsEntry, IsEntryAt, RunIsLong, beginning_of, payloads}
+use Rattle.post_journal.specs.Images.{Image, bad_entry, journal_length, entry_then, gate_then}
+use Rattle.post_journal.specs.Images.{holds, is_open, is_whole, payload_of, run_from, told_length}
+use Rattle.post_journal.specs.Images.{with_entry}
+use Rattle.post_journal.specs.Openings.{EndsRun, FindsEntry, IsEntryAt, RunIsLong, beginning_of}
+use Rattle.post_journal.specs.Openings.{payloads}
 use Rattle.post_journal.specs.declared.beginning.Beginning.{Beginning}
 use Rattle.post_journal.specs.declared.fault.OpenFault.{OpenFault}
-use Rattle.post_journal.specs.declared.fault.OpenFault.TheVariants.{NotAJournal, BadEntry, DiskFault, Memory}
+use Rattle.post_journal.specs.declared.fault.OpenFault.TheVariants.{NotAJournal, BadEntry}
+use Rattle.post_journal.specs.declared.fault.OpenFault.TheVariants.{DiskFault, Memory}
 use Rattle.post_journal.specs.declared.journal.Payload.{Payload}
-use Rattle.post_journal.proofs.Runs.{run_closed, run_same, run_suc, with_entries, with_entries-holds}
+use Rattle.post_journal.proofs.Runs.{run_closed, run_same, run_suc, with_entries}
+use Rattle.post_journal.proofs.Runs.{with_entries-holds}
 
 -- the entries so far, and the run that is left
 abbrev pub IsRead : List Payload → ℕ → List ℕ → Type 0
@@ -118,10 +126,15 @@ stopped (Some bytes) entries place Memory read found = tt
 pub failed : (o : Option (List ℕ)) (e : OpenFault) → (e ≡ DiskFault) ⊎ (e ≡ Memory)
     → IfSome o (λ bytes. EndsRun (run_from (length bytes) 22 (drop 22 bytes)) (Err e))
 failed None e is = tt
-failed (Some bytes) e (inl is) = subst (λ (f : OpenFault). EndsRun (run_from (length bytes) 22 (drop 22 bytes)) (Err f)) (sym is) tt
-failed (Some bytes) e (inr is) = subst (λ (f : OpenFault). EndsRun (run_from (length bytes) 22 (drop 22 bytes)) (Err f)) (sym is) tt
+failed (Some bytes) e (inl is) =
+    subst (λ (f : OpenFault). EndsRun (run_from (length bytes) 22 (drop 22 bytes)) (Err f)) (sym is)
+    tt
+failed (Some bytes) e (inr is) =
+    subst (λ (f : OpenFault). EndsRun (run_from (length bytes) 22 (drop 22 bytes)) (Err f)) (sym is)
+    tt
 
-pub is_fault : {T E : Type 0} (r : Result T E) (e : E) → IsErr r × IsErrAnd r (λ x. x ≡ e) → r ≡ Err e
+pub is_fault : {T E : Type 0} (r : Result T E) (e : E) → IsErr r × IsErrAnd r (λ x. x ≡ e) → r
+    ≡ Err e
 is_fault (Ok x) e h = absurd h.1
 is_fault (Err x) e h = ap Err h.1
 
@@ -147,8 +160,10 @@ pub kind_told : (o : Option (List ℕ)) (kind : Beginning) (front : List ℕ) (l
 kind_told None kind front len each is read = tt
 kind_told (Some bytes) kind front len each is read = each bytes is read
 
-pub finds_told : (o : Option (List ℕ)) (place len : ℕ) (head : List ℕ) (answer : Result (Option ℕ) OpenFault)
-    → ((bytes : List ℕ) → length bytes ≡ len - place → take (min (len - place) 5) head ≡ take 5 bytes
+pub finds_told : (o : Option (List ℕ)) (place len : ℕ) (head : List ℕ)
+    (answer : Result (Option ℕ) OpenFault)
+    → ((bytes : List ℕ) → length bytes ≡ len - place → take (min (len - place) 5) head
+    ≡ take 5 bytes
     → FindsEntry bytes place answer)
     → IfSome o (λ bytes. len ≡ length bytes)
     → IfSome o (λ bytes. take (min (len - place) 5) head ≡ take 5 (drop place bytes))

@@ -1,5 +1,6 @@
 -- What may be found on a disk, call after call.
-use Rattle.std.proofs.Common.{◌≡◌, inl, inr, ⊎_elim, ℕ, ◌≤◌, List, Option, None, Some, IfSome, sym, ◌∙◌, ap, subst, arith}
+use Rattle.std.proofs.Common.{◌≡◌, inl, inr, ⊎_elim, ℕ, ◌≤◌, List, Option, None, Some, IfSome, sym}
+use Rattle.std.proofs.Common.{◌∙◌, ap, subst, arith}
 use Rattle.std.specs.Option.{is_some}
 use Rattle.reg_io.specs.Disks.{DiskState, IsSure, LeavesOnly, Stays}
 use Rattle.post_journal.specs.Gates.{IsContent}
@@ -7,7 +8,8 @@ use Rattle.post_journal.specs.Journals.{ShowsOnly}
 
 pub weaker : (old new : DiskState) {P Q : List ℕ → Type 0} → LeavesOnly old new Q
     → ((image : List ℕ) → Q image → P image) → LeavesOnly old new P
-weaker old new call each k image left = ⊎_elim (λ was. inl was) (λ q. inr (each image q)) (call k image left)
+weaker old new call each k image left =
+    ⊎_elim (λ was. inl was) (λ q. inr (each image q)) (call k image left)
 
 -- one call more
 pub then : (old mid new : DiskState) {P Q : List ℕ → Type 0} → LeavesOnly old mid P

@@ -1,5 +1,6 @@
 -- Private: what a disk holds while bytes are put behind a gate byte and it is opened.
-use Rattle.std.specs.Prelude.{◌≡◌, ◌⊎◌, ◌<◌, false, ℕ, ◌+◌, ◌≤◌, List, [], length, Option, IfSome, Some}
+use Rattle.std.specs.Prelude.{◌≡◌, ◌⊎◌, ◌<◌, false, ℕ, ◌+◌, ◌≤◌, List, [], length, Option, IfSome}
+use Rattle.std.specs.Prelude.{Some}
 use Rattle.reg_io.specs.Disks.{DiskState, Torn}
 use Rattle.post_journal.specs.Images.{entries_held, image_of, is_open, with_gate}
 

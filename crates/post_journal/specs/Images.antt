@@ -1,5 +1,6 @@
 -- What the bytes of a file are as a journal.
-use Rattle.std.specs.Prelude.{ℕ, zero, suc, codes, ◌+◌, ◌==◌, ◌&&◌, ◌||◌, not, nat_le, nat_lt, bytes_eq}
+use Rattle.std.specs.Prelude.{ℕ, zero, suc, codes, ◌+◌, ◌==◌, ◌&&◌, ◌||◌, not, nat_le, nat_lt}
+use Rattle.std.specs.Prelude.{bytes_eq}
 use Rattle.std.specs.Prelude.{Bool, true, false, List, [], ◌∷◌, ◌++◌, length, take, drop}
 use Rattle.std.specs.Prelude.{Option, None, Some}
 use Rattle.std.specs.Int.{w32, to_be_bytes, from_be_bytes}

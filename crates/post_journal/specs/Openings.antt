@@ -1,5 +1,6 @@
 -- What opening a journal tells of the bytes that a disk holds.
-use Rattle.std.specs.Prelude.{◌≡◌, ⊤, ℕ, ◌+◌, ◌^◌, ◌==◌, ◌&&◌, ◌||◌, ◌<◌, ◌≤◌, Bool, true, false, List, length, map}
+use Rattle.std.specs.Prelude.{◌≡◌, ⊤, ℕ, ◌+◌, ◌^◌, ◌==◌, ◌&&◌, ◌||◌, ◌<◌, ◌≤◌, Bool, true, false}
+use Rattle.std.specs.Prelude.{List, length, map}
 use Rattle.std.specs.Prelude.{Option, None, Some, Result, Ok, Err, if◌then◌else◌}
 use Rattle.reg_io.specs.Disks.{DiskState}
 use Rattle.reg_io.specs.Counts.{Rose}
@@ -18,7 +19,8 @@ use Rattle.post_journal.specs.Images.{
   told_length,
 }
 use Rattle.post_journal.specs.declared.fault.OpenFault.{OpenFault}
-use Rattle.post_journal.specs.declared.fault.OpenFault.TheVariants.{NotAJournal, BadEntry, DiskFault, Memory}
+use Rattle.post_journal.specs.declared.fault.OpenFault.TheVariants.{NotAJournal, BadEntry}
+use Rattle.post_journal.specs.declared.fault.OpenFault.TheVariants.{DiskFault, Memory}
 use Rattle.post_journal.specs.declared.beginning.Beginning.{Beginning}
 use Rattle.post_journal.specs.declared.beginning.Beginning.TheVariants.{Empty, Fresh, Begun, Other}
 use Rattle.post_journal.specs.declared.journal.Payload.{Payload}

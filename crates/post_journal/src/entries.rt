@@ -3,7 +3,8 @@ ghost use Rattle.std.specs.Prelude.{◌≡◌, ◌⊎◌, ℕ, List, ◌+◌, �
 ghost use Rattle.std.specs.Prelude.{drop, min, IfSome, IfOk, IfErr};
 ghost use Rattle.reg_io.specs.Disks.{Stays};
 ghost use Rattle.post_journal.specs.Images.{end_of_places, run_from};
-ghost use Rattle.post_journal.specs.Openings.{EndsRun, FindsEntry, HasDiskCause, IsEntryAt, RunIsLong};
+ghost use Rattle.post_journal.specs.Openings.{EndsRun, FindsEntry, HasDiskCause, IsEntryAt};
+ghost use Rattle.post_journal.specs.Openings.{RunIsLong};
 ghost use Rattle.post_journal.specs.declared.fault.OpenFault.TheVariants.{DiskFault, Memory};
 
 use crate::fault::OpenFault;

@@ -1,16 +1,22 @@
 -- What a crash leaves of a disk in memory, from the record of its calls.
-use Rattle.std.proofs.Common.{◌≡◌, ℕ, zero, suc, ◌+◌, ◌<◌, ◌≤◌, min, get_or, true, List, [], ◌∷◌, ◌++◌, length, map, take, drop, replicate, Option, None, Some, Result, Ok, Err, OnOk, refl, sym, ◌∙◌, ap, subst, arith}
+use Rattle.std.proofs.Common.{◌≡◌, ℕ, zero, suc, ◌+◌, ◌<◌, ◌≤◌, min, get_or, true, List, [], ◌∷◌}
+use Rattle.std.proofs.Common.{◌++◌, length, map, take, drop, replicate, Option, None, Some, Result}
+use Rattle.std.proofs.Common.{Ok, Err, OnOk, refl, sym, ◌∙◌, ap, subst, arith}
 use Rattle.std.proofs.lemmas.Bool.{and_from, eq-eqb}
-use Rattle.std.proofs.lemmas.List.{drop_all, length-map, length-replicate, length-take, take_all, take_more}
+use Rattle.std.proofs.lemmas.List.{drop_all, length-map, length-replicate, length-take, take_all}
+use Rattle.std.proofs.lemmas.List.{take_more}
 use Rattle.reg_io.specs.Disks.{MayLeave, put_at}
-use Rattle.reg_io.specs.DiskCalls.{History, IsImage, Stage, after_call, all_suit, history_of, loosened, disk_of, is_suited}
+use Rattle.reg_io.specs.DiskCalls.{History, IsImage, Stage, after_call, all_suit, history_of}
+use Rattle.reg_io.specs.DiskCalls.{loosened, disk_of, is_suited}
 use Rattle.reg_io.specs.Crashes.{Follows, IsValid, crash_bytes, scrambled}
 use Rattle.reg_io.specs.declared.crash.CrashImage.{CrashImage}
 use Rattle.reg_io.specs.declared.crash.CrashImage.TheVariants.{AsRead, Confirmed, Scrambled}
 use Rattle.reg_io.specs.declared.crash.Replay.{Replay}
 use Rattle.reg_io.specs.declared.disk_call.DiskCall.{DiskCall}
-use Rattle.reg_io.specs.declared.disk_call.DiskCall.TheVariants.{Wrote, FailedWrite, Cut, FailedCut, Synced}
-use Rattle.reg_io.proofs.DiskCalls.{fits_length, fits_take, history-push, left_now, valid, valid_call}
+use Rattle.reg_io.specs.declared.disk_call.DiskCall.TheVariants.{Wrote, FailedWrite, Cut, FailedCut}
+use Rattle.reg_io.specs.declared.disk_call.DiskCall.TheVariants.{Synced}
+use Rattle.reg_io.proofs.DiskCalls.{fits_length, fits_take, history-push, left_now, valid}
+use Rattle.reg_io.proofs.DiskCalls.{valid_call}
 
 -- ---- the three are among what a crash may leave
 
@@ -20,9 +26,11 @@ suits_scrambled (Some b) = eq-eqb b b refl
 
 fits_scrambled : (sure : List (Option ℕ)) → all_suit sure (map scrambled sure) ≡ true
 fits_scrambled [] = refl
-fits_scrambled (s ∷ sure) = and_from (is_suited s (scrambled s)) _ (suits_scrambled s) (fits_scrambled sure)
+fits_scrambled (s ∷ sure) =
+    and_from (is_suited s (scrambled s)) _ (suits_scrambled s) (fits_scrambled sure)
 
-is_image : (image : CrashImage) (stage : Stage) → IsValid stage → IsImage stage (crash_bytes image stage)
+is_image : (image : CrashImage) (stage : Stage) → IsValid stage
+    → IsImage stage (crash_bytes image stage)
 is_image AsRead stage v = record { long = v.low; fitting = v.fitting }
 is_image Confirmed stage v = record { long = v.confirmed_low; fitting = v.confirmed_fitting }
 is_image Scrambled stage v =
@@ -55,14 +63,17 @@ scrambled-loosened zero (suc end) (suc count) [] is within =
     ap (λ (l : List ℕ). 0x37 ∷ l) (scrambled-loosened zero end count [] (omega arith) (omega arith)
     ∙ ap (λ (l : List ℕ). replicate count 0x37 ++ l) (drop_all end [] (omega arith)))
 scrambled-loosened zero (suc end) (suc count) (s ∷ sure) is within =
-    ap (λ (l : List ℕ). 0x37 ∷ l) (scrambled-loosened zero end count sure (omega arith) (omega arith))
+    ap (λ (l : List ℕ). 0x37 ∷ l) (scrambled-loosened zero end count sure (omega arith)
+    (omega arith))
 scrambled-loosened (suc place) end count [] is within = absurd (omega arith)
 scrambled-loosened (suc place) zero count (s ∷ sure) is within = absurd (omega arith)
 scrambled-loosened (suc place) (suc end) count (s ∷ sure) is within =
-    ap (λ (l : List ℕ). scrambled s ∷ l) (scrambled-loosened place end count sure (omega arith) (omega arith))
+    ap (λ (l : List ℕ). scrambled s ∷ l) (scrambled-loosened place end count sure (omega arith)
+    (omega arith))
 
 loosened_put : (place count : ℕ) (sure : List (Option ℕ)) → place ≤ length sure
-    → map scrambled (loosened place count sure) ≡ put_at place (replicate count 0x37) (map scrambled sure)
+    → map scrambled (loosened place count sure)
+    ≡ put_at place (replicate count 0x37) (map scrambled sure)
 loosened_put place count sure within =
     scrambled-loosened place (place + count) count sure refl within
     ∙ ap (λ (k : ℕ). take place (map scrambled sure)
@@ -158,14 +169,17 @@ follows_first replay first confirmed content sure = record {
 }
 
 -- one call more
-pub follows_next : (replay now : Replay) (first : List ℕ) (calls : List DiskCall) (call : DiskCall) (i : ℕ)
-    → Follows replay (history_of first (take i calls)) → i < length calls → call ≡ get_or calls i call
+pub follows_next : (replay now : Replay) (first : List ℕ) (calls : List DiskCall) (call : DiskCall)
+    (i : ℕ)
+    → Follows replay (history_of first (take i calls)) → i < length calls → call
+    ≡ get_or calls i call
     → ((h : History) → Follows replay h → Follows now (after_call call h))
     → Follows now (history_of first (take (i + 1) calls))
 follows_next replay now first calls call i f within is each =
     subst (λ (cs : List DiskCall). Follows now (history_of first cs))
     (sym (take_more calls i call within ∙ ap (λ (x : DiskCall). take i calls ++ x ∷ []) (sym is)))
-    (subst (Follows now) (sym (history-push first (take i calls) call)) (each (history_of first (take i calls)) f))
+    (subst (Follows now) (sym (history-push first (take i calls) call))
+    (each (history_of first (take i calls)) f))
 
 pub follows_all : (replay : Replay) (first : List ℕ) (calls : List DiskCall) (i : ℕ)
     → Follows replay (history_of first (take i calls)) → length calls ≤ i

@@ -1,13 +1,19 @@
 -- What a crash may leave of a disk in memory, call by call.
-use Rattle.std.proofs.Common.{◌≡◌, inl, inr, ⊎_elim, ℕ, zero, suc, ◌+◌, ◌<◌, ◌≤◌, min, max, true, List, [], ◌∷◌, ◌++◌, length, map, take, drop, Option, None, Some, Result, Ok, Err, OnOk, OnErr, refl, sym, ◌∙◌, ap, subst, arith}
+use Rattle.std.proofs.Common.{◌≡◌, inl, inr, ⊎_elim, ℕ, zero, suc, ◌+◌, ◌<◌, ◌≤◌, min, max, true}
+use Rattle.std.proofs.Common.{List, [], ◌∷◌, ◌++◌, length, map, take, drop, Option, None, Some}
+use Rattle.std.proofs.Common.{Result, Ok, Err, OnOk, OnErr, refl, sym, ◌∙◌, ap, subst, arith}
 use Rattle.std.specs.Prelude.{◌==◌, ◌⊎◌}
 use Rattle.std.proofs.lemmas.Bool.{false≢true, and_parts, and_from, eqb-true, eq-eqb}
 use Rattle.std.proofs.lemmas.List.{length-take, length-drop, length-append, take_all, drop_all}
-use Rattle.reg_io.specs.Disks.{After, CutBack, DiskState, IsSure, LeavesOnly, MayLeave, Torn, put_at}
-use Rattle.reg_io.specs.DiskCalls.{History, IsImage, LeftBefore, LeftSince, Stage, after_call, after_calls, all_suit, history_of, loosened, loosened_stage, disk_of, is_suited, sure_of}
+use Rattle.reg_io.specs.Disks.{After, CutBack, DiskState, IsSure, LeavesOnly, MayLeave, Torn}
+use Rattle.reg_io.specs.Disks.{put_at}
+use Rattle.reg_io.specs.DiskCalls.{History, IsImage, LeftBefore, LeftSince, Stage, after_call}
+use Rattle.reg_io.specs.DiskCalls.{after_calls, all_suit, history_of, loosened, loosened_stage}
+use Rattle.reg_io.specs.DiskCalls.{disk_of, is_suited, sure_of}
 use Rattle.reg_io.specs.Crashes.{IsValid}
 use Rattle.reg_io.specs.declared.disk_call.DiskCall.{DiskCall}
-use Rattle.reg_io.specs.declared.disk_call.DiskCall.TheVariants.{Wrote, FailedWrite, Cut, FailedCut, Synced}
+use Rattle.reg_io.specs.declared.disk_call.DiskCall.TheVariants.{Wrote, FailedWrite, Cut, FailedCut}
+use Rattle.reg_io.specs.declared.disk_call.DiskCall.TheVariants.{Synced}
 
 -- ---- one call more
 
@@ -94,7 +100,8 @@ mend zero (suc count) [] (b ∷ image) within fit =
     record {
       fitting = refl;
       before = refl;
-      behind = λ m n here sum. drop_all n (b ∷ image) (omega arith) ∙ sym (drop_all n [] (omega arith));
+      behind = λ m n here sum. drop_all n (b ∷ image) (omega arith)
+          ∙ sym (drop_all n [] (omega arith));
       no_longer = omega arith;
       long = omega arith;
       least = omega arith;
@@ -104,7 +111,8 @@ mend zero (suc count) (None ∷ sure) (b ∷ image) within fit =
     record {
       fitting = more.fitting;
       before = refl;
-      behind = λ m n is sum. drop_next n count b b _ _ (omega arith) (more.behind 0 count refl (omega arith));
+      behind = λ m n is sum. drop_next n count b b _ _ (omega arith) (more.behind 0 count refl
+          (omega arith));
       no_longer = omega (arith, more.no_longer);
       long = omega (arith, more.long);
       least = omega (arith, more.least);
@@ -114,7 +122,8 @@ mend zero (suc count) (Some s ∷ sure) (b ∷ image) within fit =
     record {
       fitting = and_from (s == s) _ (eq-eqb s s refl) more.fitting;
       before = refl;
-      behind = λ m n is sum. drop_next n count b s _ _ (omega arith) (more.behind 0 count refl (omega arith));
+      behind = λ m n is sum. drop_next n count b s _ _ (omega arith) (more.behind 0 count refl
+          (omega arith));
       no_longer = omega (arith, more.no_longer);
       long = omega (arith, more.long);
       least = omega (arith, more.least);
@@ -152,7 +161,8 @@ fits_take (suc n) (s ∷ sure) (b ∷ image) fit =
     let parts = and_parts (is_suited s b) _ fit in
     and_from (is_suited s b) _ parts.0 (fits_take n sure image parts.1)
 
-fits_loose : (place count : ℕ) (sure : List (Option ℕ)) (image : List ℕ) → all_suit sure image ≡ true
+fits_loose : (place count : ℕ) (sure : List (Option ℕ)) (image : List ℕ) → all_suit sure image
+    ≡ true
     → all_suit (loosened place count sure) image ≡ true
 fits_loose place count sure [] fit = refl
 fits_loose place count [] (b ∷ image) fit = absurd (false≢true fit)
@@ -173,7 +183,8 @@ fits_over (b ∷ bytes) (s ∷ sure) tail fit = fits_over bytes sure tail fit
 
 fits_put : (place end : ℕ) (bytes : List ℕ) (sure : List (Option ℕ)) (content : List ℕ)
     → end ≡ place + length bytes → place ≤ length content → all_suit sure content ≡ true
-    → all_suit (loosened place (length bytes) sure) (take place content ++ (bytes ++ drop end content)) ≡ true
+    → all_suit (loosened place (length bytes) sure) (take place content
+    ++ (bytes ++ drop end content)) ≡ true
 fits_put zero end bytes sure content is within fit =
     let same : end ≡ length bytes = omega arith in
     fits_over bytes sure (drop end content)
@@ -188,7 +199,8 @@ fits_put (suc place) (suc end) bytes (s ∷ sure) (c ∷ content) is within fit 
 
 length-put_at : (place : ℕ) (bytes content : List ℕ) → place ≤ length content
     → length content ≤ length (put_at place bytes content)
-length-put_at place bytes content within = simp (length-append, length-take, length-drop) (omega arith)
+length-put_at place bytes content within =
+    simp (length-append, length-take, length-drop) (omega arith)
 
 pub valid_sure : (content : List ℕ) → IsValid (sure_of content)
 valid_sure content = record {
@@ -213,9 +225,11 @@ valid_call (Wrote place bytes) h is = record {
 }
 valid_call (FailedWrite place count) h is = record {
   low = is.low;
-  fitting = fits_loose (min place (length h.now.content)) count h.now.bytes h.now.content is.fitting;
+  fitting = fits_loose (min place (length h.now.content)) count h.now.bytes h.now.content
+      is.fitting;
   confirmed_low = is.confirmed_low;
-  confirmed_fitting = fits_loose (min place (length h.now.content)) count h.now.bytes h.now.confirmed
+  confirmed_fitting =
+      fits_loose (min place (length h.now.content)) count h.now.bytes h.now.confirmed
       is.confirmed_fitting;
 }
 valid_call (Cut len) h is = record {
@@ -232,19 +246,22 @@ valid_call (FailedCut len) h is = record {
 }
 valid_call Synced h is = valid_sure h.now.content
 
-valid_calls : (calls : List DiskCall) (h : History) → IsValid h.now → IsValid (after_calls calls h).now
+valid_calls : (calls : List DiskCall) (h : History) → IsValid h.now
+    → IsValid (after_calls calls h).now
 valid_calls [] h is = is
 valid_calls (call ∷ calls) h is = valid_calls calls (after_call call h) (valid_call call h is)
 
 pub valid : (first : List ℕ) (calls : List DiskCall) → IsValid (history_of first calls).now
-valid first calls = valid_calls calls (record { now = sure_of first; before = [] }) (valid_sure first)
+valid first calls =
+    valid_calls calls (record { now = sure_of first; before = [] }) (valid_sure first)
 
 -- ---- what each call leaves
 
 abbrev pub of : History → DiskState
 of h = disk_of h.now.content h
 
-left_le : (k : ℕ) (before : List Stage) (image : List ℕ) → LeftBefore k before image → k < length before
+left_le : (k : ℕ) (before : List Stage) (image : List ℕ) → LeftBefore k before image
+    → k < length before
 left_le k [] image left = absurd left
 left_le k (s ∷ before) image (inl here) = omega (arith, here.0)
 left_le k (s ∷ before) image (inr there) = omega (arith, left_le k before image there)
@@ -259,7 +276,8 @@ leaves_now : (h : History) (now : Stage) (P : List ℕ → Type 0)
 leaves_now h now P each k image (le, inl here) = inr (each image here.1)
 leaves_now h now P each k image (le, inr older) = inl (le, inr older)
 
-write_leaves : (h : History) (place count : ℕ) (content : List ℕ) → IsValid h.now → place ≤ length h.now.content
+write_leaves : (h : History) (place count : ℕ) (content : List ℕ) → IsValid h.now
+    → place ≤ length h.now.content
     → LeavesOnly (of h)
     (of (record { now = loosened_stage place count content h.now; before = h.before }))
     (After (Torn place count) (of h))
@@ -270,7 +288,8 @@ write_leaves h place count content is within =
         → After (Torn place count) (of h) image
     each image left =
         let here : min place (length h.now.content) ≡ place = omega (arith, within) in
-        let fit = subst (λ (q : ℕ). all_suit (loosened q count h.now.bytes) image ≡ true) here left.fitting in
+        let fit = subst (λ (q : ℕ). all_suit (loosened q count h.now.bytes) image ≡ true) here
+        left.fitting in
         let more = fits_length h.now.bytes h.now.content is.fitting in
         let low = is.low in let long = left.long in
         let m = mend place count h.now.bytes image (omega arith) fit in
@@ -341,15 +360,33 @@ fill (suc least) (s ∷ sure) (b ∷ image) fit =
 cut_leaves : (h : History) (len : ℕ) (content : List ℕ) → IsValid h.now
     → LeavesOnly (of h)
     (of (record {
-      now = record { confirmed = h.now.confirmed; content = content; bytes = h.now.bytes; least = min len h.now.least };
+      now = record {
+        confirmed = h.now.confirmed;
+        content = content;
+        bytes = h.now.bytes;
+        least =
+            min len h.now.least;
+      };
       before = h.before;
     }))
     (After (CutBack len) (of h))
 cut_leaves h len content is =
-    leaves_now h (record { confirmed = h.now.confirmed; content = content; bytes = h.now.bytes; least = min len h.now.least }) _ each
+    leaves_now h (record {
+      confirmed = h.now.confirmed;
+      content = content;
+      bytes =
+          h.now.bytes;
+      least = min len h.now.least;
+    }) _ each
   where
     each : (image : List ℕ)
-        → IsImage (record { confirmed = h.now.confirmed; content = content; bytes = h.now.bytes; least = min len h.now.least }) image
+        → IsImage (record {
+          confirmed = h.now.confirmed;
+          content = content;
+          bytes =
+              h.now.bytes;
+          least = min len h.now.least;
+        }) image
         → After (CutBack len) (of h) image
     each image left =
         let more = fits_length h.now.bytes h.now.content is.fitting in
@@ -366,11 +403,13 @@ sync_leaves : (h : History)
     (λ image. Some h.now.content ≡ Some image)
 sync_leaves h k image (le, inl here) =
     inr (ap Some (sym (sure_image h.now.content image here.1.fitting here.1.long)))
-sync_leaves h k image (le, inr older) = inl (omega (arith, left_le k (h.now ∷ h.before) image older), older)
+sync_leaves h k image (le, inr older) =
+    inl (omega (arith, left_le k (h.now ∷ h.before) image older), older)
 
 sync_only : (h : History)
     → IsSure (of (after_call Synced h))
-sync_only h image (le, inl here) = ap Some (sym (sure_image h.now.content image here.1.fitting here.1.long))
+sync_only h image (le, inl here) =
+    ap Some (sym (sure_image h.now.content image here.1.fitting here.1.long))
 sync_only h image (le, inr older) =
     absurd (omega (arith, left_le (length (h.now ∷ h.before)) (h.now ∷ h.before) image older))
 
@@ -411,7 +450,8 @@ wrote h now place bytes content v is within e =
     (write_leaves h place (length bytes) _ v (rw is within))
 
 pub failed_write : (h now : History) (place count : ℕ) (content : List ℕ) → IsValid h.now
-    → h.now.content ≡ content → place ≤ length content → now ≡ after_call (FailedWrite place count) h
+    → h.now.content ≡ content → place ≤ length content → now
+    ≡ after_call (FailedWrite place count) h
     → LeavesOnly (of h) (of now) (After (Torn place count) (of h))
 failed_write h now place count content v is within e =
     subst (λ (g : History). LeavesOnly (of h) (of g)

@@ -1,5 +1,6 @@
 //! Disks in memory: one that fails only where it can't grow, and one whose calls fail by a list.
-ghost use Rattle.std.specs.Prelude.{◌≡◌, ◌+◌, ◌-◌, ◌^◌, min, ◌≤◌, ◌++◌, [], ◌∷◌, Some, take, length, vec_len, OnOk, OnErr, IfOk};
+ghost use Rattle.std.specs.Prelude.{◌≡◌, ◌+◌, ◌-◌, ◌^◌, min, ◌≤◌, ◌++◌, [], ◌∷◌, Some, take};
+ghost use Rattle.std.specs.Prelude.{length, vec_len, OnOk, OnErr, IfOk};
 ghost use Rattle.reg_io.specs.DiskCalls.{history_of, disk_of};
 ghost use Rattle.reg_io.specs.Counts.{Rose};
 ghost use Rattle.reg_io.specs.Disks.{put_at};

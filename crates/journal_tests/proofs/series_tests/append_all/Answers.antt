@@ -14,9 +14,11 @@ loop-entry-preserved g c = let i = c.loop-entry.invariant in let e = c.in_ok-app
     record {
       usable = e.usable;
       stands = e.stands;
-      grows = grows_next _ _ _ c.args.entries.now c.entry-item.result c.loop-entry.entry-index c.loop-entry-test.true c.entry-item.is i.grows e.grows;
+      grows = grows_next _ _ _ c.args.entries.now c.entry-item.result c.loop-entry.entry-index
+          c.loop-entry-test.true c.entry-item.is i.grows e.grows;
     }
 
 pub returns : goal.returns
 returns g c =
-    grows_all _ _ c.args.entries.now c.loop-entry.entry-index c.loop-entry-test.false c.loop-entry.invariant.grows
+    grows_all _ _ c.args.entries.now c.loop-entry.entry-index c.loop-entry-test.false
+    c.loop-entry.invariant.grows

@@ -7,5 +7,6 @@ abbrev pub invariant-loop-entry : goal.invariant-loop-entry
 invariant-loop-entry g l = record {
   usable : l.journal.failed ≡ false;
   stands : Stands l.journal.end (g.D.Disk.state l.disk);
-  grows : Grows (g.D.Disk.state l.fn.disk) (g.D.Disk.state l.disk) (payloads (take l.entry-index l.entries)) [];
+  grows : Grows (g.D.Disk.state l.fn.disk) (g.D.Disk.state l.disk)
+      (payloads (take l.entry-index l.entries)) [];
 }

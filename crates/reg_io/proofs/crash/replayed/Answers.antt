@@ -10,7 +10,8 @@ loop-call-init c = record {
 pub loop-call-preserved : goal.loop-call-preserved
 loop-call-preserved c = record {
   follows = follows_next c.loop-call.replay c.follow.new.self c.args.first.now c.args.calls.now
-      c.call-item.result c.loop-call.call-index c.loop-call.invariant.follows c.loop-call-test.true c.call-item.is c.in_ok-follow.ensures;
+      c.call-item.result c.loop-call.call-index c.loop-call.invariant.follows c.loop-call-test.true
+      c.call-item.is c.in_ok-follow.ensures;
 }
 
 pub returns : goal.returns

@@ -1,7 +1,8 @@
 use Rattle.std.proofs.Common.{◌∙◌, ℕ, ap, subst, sym, refl, arith}
 use Rattle.post_journal.specs.Images.{behind_gate}
 use Rattle.post_journal.specs.Journals.{FitsBehind, JournalState, Stands}
-use Rattle.post_journal.proofs.AppendSteps.{cut_off, gate_within, grows_appended, shows_append, stands_appended}
+use Rattle.post_journal.proofs.AppendSteps.{cut_off, gate_within, grows_appended, shows_append}
+use Rattle.post_journal.proofs.AppendSteps.{stands_appended}
 use Rattle.post_journal.proofs.ForAbove.{grows_cut}
 use Rattle.post_journal.proofs.journal.Journal.append.Goals as goal
 

@@ -1,7 +1,8 @@
 use Rattle.std.proofs.Common.{◌∙◌, inl, inr}
 use Rattle.post_journal.specs.declared.journal.Journal.{Journal}
 use Rattle.post_journal.proofs.ReadRuns.{is_fault}
-use Rattle.post_journal.proofs.OpenSteps.{begun_run, is_closed, is_new, is_small, keeps_begun, not_begun, opens_bad, opens_empty, opens_run, seen_kind}
+use Rattle.post_journal.proofs.OpenSteps.{begun_run, is_closed, is_new, is_small, keeps_begun}
+use Rattle.post_journal.proofs.OpenSteps.{not_begun, opens_bad, opens_empty, opens_run, seen_kind}
 use Rattle.post_journal.proofs.Shows.{sure_stays}
 use Rattle.post_journal.proofs.journal.Journal.open.Goals as goal
 
@@ -19,7 +20,8 @@ begin-requires-clause-closed g c =
     let kind = seen_kind o seen.beginning seen.len seen.ensures.seen in
     rw c.look.ensures.content (is_closed o seen.beginning kind c.in-Fresh.is)
 
-pub returns-in_err-begin_empty-in-Empty-clause-keeps : goal.returns-in_err-begin_empty-in-Empty-clause-keeps
+pub returns-in_err-begin_empty-in-Empty-clause-keeps :
+    goal.returns-in_err-begin_empty-in-Empty-clause-keeps
 returns-in_err-begin_empty-in-Empty-clause-keeps g c =
     let o = (g.D.Disk.state c.args.disk.now).content in
     let seen = c.in_ok-beginning in
@@ -35,7 +37,8 @@ returns-in_err-begin-in-Fresh-clause-keeps g c =
     keeps_begun _ (g.D.Disk.state c.look.new.disk) _ c.look.ensures.shows c.look.ensures.content
     (is_new o seen.beginning kind (inr c.in-Fresh.is)) c.begin.ensures.shows
 
-pub returns-in_ok-begin_empty-in-Empty-clause-keeps : goal.returns-in_ok-begin_empty-in-Empty-clause-keeps
+pub returns-in_ok-begin_empty-in-Empty-clause-keeps :
+    goal.returns-in_ok-begin_empty-in-Empty-clause-keeps
 returns-in_ok-begin_empty-in-Empty-clause-keeps g c =
     let o = (g.D.Disk.state c.args.disk.now).content in
     let seen = c.in_ok-beginning in
@@ -51,7 +54,8 @@ returns-in_ok-begin-in-Fresh-clause-keeps g c =
     keeps_begun _ (g.D.Disk.state c.look.new.disk) _ c.look.ensures.shows c.look.ensures.content
     (is_new o seen.beginning kind (inr c.in-Fresh.is)) c.begin.ensures.shows
 
-pub returns-in_ok-begin_empty-in-Empty-clause-opens : goal.returns-in_ok-begin_empty-in-Empty-clause-opens
+pub returns-in_ok-begin_empty-in-Empty-clause-opens :
+    goal.returns-in_ok-begin_empty-in-Empty-clause-opens
 returns-in_ok-begin_empty-in-Empty-clause-opens g c =
     let o = (g.D.Disk.state c.args.disk.now).content in
     let seen = c.in_ok-beginning in

@@ -19,7 +19,8 @@ returns-then-next_fails-clause-leaves c = let old = c.args.self.now.disk in
     let first = c.fail.ensures.first ∙ c.keep.ensures.first in
     let same = ap (λ v. v.items) c.fail.ensures.calls in
     ⊎_elim
-    (λ kept. failed_cut (history_of old.first old.calls.items) _ c.args.len (valid old.first old.calls.items)
+    (λ kept. failed_cut (history_of old.first old.calls.items) _ c.args.len
+    (valid old.first old.calls.items)
     (next old.first _ old.calls.items _ (FailedCut c.args.len) first (same ∙ kept)))
     (λ kept k image left. inl (subst (λ h. LeftSince h k image)
     (λ i. history_of (first i) ((same ∙ kept) i)) left))
@@ -30,6 +31,7 @@ returns-then-next_fails-clause-syncs c = let old = c.args.self.now.disk in
     let first = c.fail.ensures.first ∙ c.keep.ensures.first in
     let same = ap (λ v. v.items) c.fail.ensures.calls in
     ⊎_elim
-    (λ kept. ap (λ h. length h.before) (next old.first _ old.calls.items _ (FailedCut c.args.len) first (same ∙ kept)))
+    (λ kept. ap (λ h. length h.before) (next old.first _ old.calls.items _ (FailedCut c.args.len)
+    first (same ∙ kept)))
     (λ kept i. length (history_of (first i) ((same ∙ kept) i)).before)
     (kept_or_not c.keep.result c.keep.ensures.calls c.keep.ensures.same_calls)

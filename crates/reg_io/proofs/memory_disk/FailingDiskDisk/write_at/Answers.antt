@@ -19,9 +19,11 @@ returns-then-next_fails-clause-leaves c = let old = c.args.self.now.disk in
     let first = c.fail.ensures.first ∙ c.keep.ensures.first in
     let same = ap (λ v. v.items) c.fail.ensures.calls in
     ⊎_elim
-    (λ kept. failed_write (history_of old.first old.calls.items) _ c.args.place (length c.args.bytes.now) old.bytes.items
+    (λ kept. failed_write (history_of old.first old.calls.items) _ c.args.place
+    (length c.args.bytes.now) old.bytes.items
     (valid old.first old.calls.items) old.recorded c.requires
-    (next old.first _ old.calls.items _ (FailedWrite c.args.place (length c.args.bytes.now)) first (same ∙ kept)))
+    (next old.first _ old.calls.items _ (FailedWrite c.args.place (length c.args.bytes.now)) first
+    (same ∙ kept)))
     (λ kept k image left. inl (subst (λ h. LeftSince h k image)
     (λ i. history_of (first i) ((same ∙ kept) i)) left))
     (kept_or_not c.keep.result c.keep.ensures.calls c.keep.ensures.same_calls)
@@ -31,6 +33,8 @@ returns-then-next_fails-clause-syncs c = let old = c.args.self.now.disk in
     let first = c.fail.ensures.first ∙ c.keep.ensures.first in
     let same = ap (λ v. v.items) c.fail.ensures.calls in
     ⊎_elim
-    (λ kept. ap (λ h. length h.before) (next old.first _ old.calls.items _ (FailedWrite c.args.place (length c.args.bytes.now)) first (same ∙ kept)))
+    (λ kept. ap (λ h. length h.before)
+    (next old.first _ old.calls.items _ (FailedWrite c.args.place (length c.args.bytes.now))
+    first (same ∙ kept)))
     (λ kept i. length (history_of (first i) ((same ∙ kept) i)).before)
     (kept_or_not c.keep.result c.keep.ensures.calls c.keep.ensures.same_calls)

@@ -11,11 +11,13 @@ returns-in-Ok-clause-shown c = let new = c.shorten.new.self in
 pub returns-in-Ok-clause-leaves : goal.returns-in-Ok-clause-leaves
 returns-in-Ok-clause-leaves c = let old = c.args.self.now in
     was_cut (history_of old.first old.calls.items) _ c.args.len (valid old.first old.calls.items)
-    (next old.first _ old.calls.items _ (Cut c.args.len) c.shorten.ensures.first c.in-Ok.ensures.calls)
+    (next old.first _ old.calls.items _ (Cut c.args.len) c.shorten.ensures.first
+    c.in-Ok.ensures.calls)
 
 pub returns-in-Ok-clause-syncs : goal.returns-in-Ok-clause-syncs
 returns-in-Ok-clause-syncs c = let old = c.args.self.now in
-    ap (λ h. length h.before) (next old.first _ old.calls.items _ (Cut c.args.len) c.shorten.ensures.first
+    ap (λ h. length h.before) (next old.first _ old.calls.items _ (Cut c.args.len)
+    c.shorten.ensures.first
     c.in-Ok.ensures.calls)
 
 pub returns-in-Err-clause-shown : goal.returns-in-Err-clause-shown

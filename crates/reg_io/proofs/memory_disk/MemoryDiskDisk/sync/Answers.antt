@@ -16,7 +16,8 @@ returns-in-Ok-clause-sure c = let old = c.args.self.now in
 
 pub returns-in-Ok-clause-leaves : goal.returns-in-Ok-clause-leaves
 returns-in-Ok-clause-leaves c = let old = c.args.self.now in
-    synced_leaves (history_of old.first old.calls.items) _ _ (old.recorded ∙ sym c.keep.ensures.bytes)
+    synced_leaves (history_of old.first old.calls.items) _ _ (old.recorded
+    ∙ sym c.keep.ensures.bytes)
     (next old.first _ old.calls.items _ Synced c.keep.ensures.first c.in-Ok.ensures.calls)
 
 pub returns-in-Ok-clause-later : goal.returns-in-Ok-clause-later

@@ -17,7 +17,8 @@ returns-in-Ok-clause-leaves c = let old = c.args.self.now in
 
 pub returns-in-Ok-clause-syncs : goal.returns-in-Ok-clause-syncs
 returns-in-Ok-clause-syncs c = let old = c.args.self.now in
-    ap (λ h. length h.before) (next old.first _ old.calls.items _ (Wrote c.args.place c.args.bytes.now)
+    ap (λ h. length h.before)
+    (next old.first _ old.calls.items _ (Wrote c.args.place c.args.bytes.now)
     c.write.ensures.first c.in-Ok.ensures.calls)
 
 pub returns-in-Err-clause-shown : goal.returns-in-Err-clause-shown
