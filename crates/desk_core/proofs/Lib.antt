@@ -10,5 +10,8 @@ pub mod LineLemmas
 pub mod MadeLemmas
 pub mod PlanLemmas
 pub mod QuestionLemmas
+pub mod ReplayingLemmas
+pub mod RequestLemmas
+pub mod ServingLemmas
 pub mod SheetLemmas
 pub mod StepLemmas

@@ -1,5 +1,5 @@
 -- What a plan makes, and what its effect is then.
-use Rattle.std.proofs.Common.{◌≡◌, Option, Some, None, List, Result, Ok, Err, refl, ap}
+use Rattle.std.proofs.Common.{◌≡◌, Option, Some, None, List, Result, Ok, Err, refl, ap, ◌∙◌}
 use Rattle.reg_base.specs.declared.fault.PostFault.{PostFault}
 use Rattle.reg_base.specs.declared.records.Doc.{Doc}
 use Rattle.reg_base.specs.declared.records.Document.{Document}
@@ -8,19 +8,20 @@ use Rattle.reg_base.specs.Records.{records_of}
 use Rattle.reg_base.specs.Results.{◌>>=◌}
 use Rattle.post_model.specs.declared.made.Yield.{Yield}
 use Rattle.post_model.specs.Yields.{yield_of}
-use Rattle.desk_words.specs.declared.request.Request.{Request}
 use Rattle.desk_words.specs.declared.reply.Refusal.{Refusal}
 use Rattle.desk_model.specs.declared.plan.Plan.{Plan}
 use Rattle.desk_model.specs.declared.plan.Source.{Source}
 use Rattle.desk_model.specs.declared.plan.Source.TheVariants.{ByHand, ByRules, Kept, Nothing}
 use Rattle.desk_model.specs.declared.plan.Source.TheVariants.{Removed}
 use Rattle.desk_model.specs.State.{Setting, Desk}
-use Rattle.desk_model.specs.Plans.{Sight, Meaning}
+use Rattle.desk_model.specs.Plans.{Sight}
+use Rattle.desk_model.specs.Stops.{Stop}
 use Rattle.desk_model.specs.RecordSets.{given_by_hand}
 use Rattle.desk_model.specs.DocumentSets.{document_of, document_from, with_yield}
-use Rattle.desk_model.specs.Serial.{made_at, plan_effect}
-use Rattle.desk_model.specs.Desk.{tests_of}
+use Rattle.desk_model.specs.Serial.{made_at, plan_effect, work_effect}
+use Rattle.desk_core.specs.declared.way.Way.{Way}
 use Rattle.desk_core.specs.Outcomes.{IsPut, made_effect}
+use Rattle.desk_core.specs.Ways.{entry_test, plan_limits, tests_in}
 
 -- the head of a document that was made, or this one
 abbrev doc_in : Doc → Result (Option Document) Refusal → Doc
@@ -79,11 +80,21 @@ module _ (setting : Setting) (documents : List Document) (before : Option Docume
     none-removed Nothing e = cc
     none-removed Removed e = refl
 
+-- two tests and what stands behind them
+then-then : {X : Type 0} (first second : Result (Unit {0}) Refusal) (rest : Result X Refusal) →
+    (first >>= λ _. second >>= λ _. rest) ≡ ((first >>= λ _. second) >>= λ _. rest)
+then-then (Ok u) second rest = refl
+then-then (Err refusal) second rest = refl
+
 -- the effect of a plan is that of what it makes
-pub plan-made : (desk : Desk) (meaning : Meaning) (asked : Request) (sight : Sight) (plan : Plan)
-    (made : Result (Option Document) Refusal) →
+pub plan-made : (way : Way) (desk : Desk) (tested : Result (Unit {0}) Stop) (sight : Sight)
+    (plan : Plan) (made : Result (Option Document) Refusal) →
     made_at desk.setting desk.serial sight plan ≡ made →
-    plan_effect (tests_of desk meaning asked) desk.setting desk.serial sight.drawn sight plan
-    ≡ made_effect desk sight plan made
+    plan_effect (tests_in way desk tested) desk.setting desk.serial sight.drawn sight plan
+    ≡ made_effect way desk sight plan made
 unfolding plan_effect
-plan-made desk meaning asked sight plan made is = ap (made_effect desk sight plan) is
+plan-made way desk tested sight plan made is =
+    let first = made_at desk.setting desk.serial sight plan in
+    then-then (plan_limits way desk sight plan first) (entry_test way desk)
+    (first >>= work_effect desk.setting desk.serial sight.drawn sight plan)
+    ∙ ap (made_effect way desk sight plan) is

@@ -33,7 +33,10 @@ use Rattle.desk_core.specs.declared.outcome.Outcome.TheVariants.{Replies, Change
 use Rattle.desk_core.specs.Invariants.{AreKept}
 use Rattle.desk_plans.specs.Bounds.{IsWithinBounds}
 use Rattle.desk_core.specs.DeskViews.{Fits}
-use Rattle.desk_core.specs.Outcomes.{Comes, IsPut, Leaves, made_effect}
+use Rattle.desk_core.specs.Outcomes.{Comes, IsPut, Leaves, MayMake, made_effect}
+use Rattle.desk_core.specs.declared.way.Way.{Way}
+use Rattle.desk_core.specs.declared.way.Way.TheVariants.{Served, Replayed}
+use Rattle.desk_core.specs.Ways.{limits_in}
 use Rattle.desk_plans.specs.Sights.{Suits, RemovesOne}
 use Rattle.desk_core.specs.SeenStates.{IsSightOf, sight_at}
 use Rattle.desk_core.proofs.DocumentLists.{number-at, All-at, records-with, length-with}
@@ -45,11 +48,12 @@ record IsThere (state : State) (sight : Sight) (b : Document) : Type 0 where
   at_number : document_at b.doc.number state.documents ≡ Some b
   undrawn : sight.drawn ≡ 0
 
-seen-there : (state : State) (sight : Sight) → IsSightOf state sight → (b : Document) →
+seen-there : (way : Way) (state : State) (sight : Sight) → IsSightOf way state sight → (b :
+    Document) →
     sight.before ≡ Some b → IsThere state sight b
-seen-there state sight seen b is = at seen.doc seen.same
+seen-there way state sight seen b is = at seen.doc seen.same
   where
-    at : (doc : Option ℕ) → sight ≡ sight_at state doc seen.key → IsThere state sight b
+    at : (doc : Option ℕ) → sight ≡ sight_at way state doc seen.key → IsThere state sight b
     at None same = let none : sight.before ≡ None = ap (λ (s : Sight). s.before) same in cc
     at (Some n) same =
         let found : document_at n state.documents ≡ Some b =
@@ -61,11 +65,11 @@ seen-there state sight seen b is = at seen.doc seen.same
         }
 
 -- the document that is seen has short lists, as all have
-pub seen-short : (state : State) (sight : Sight) (top records : ℕ) →
-    AreKept state.documents top records → IsSightOf state sight → (b : Document) →
+pub seen-short : (way : Way) (state : State) (sight : Sight) (top records : ℕ) →
+    AreKept state.documents top records → IsSightOf way state sight → (b : Document) →
     sight.before ≡ Some b → IsWithinBounds b
-seen-short state sight top records kept seen b is = All-at IsWithinBounds b.doc.number
-    state.documents b kept.short (seen-there state sight seen b is).at_number
+seen-short way state sight top records kept seen b is = All-at IsWithinBounds b.doc.number
+    state.documents b kept.short (seen-there way state sight seen b is).at_number
 
 -- ---- limits that are not passed
 
@@ -99,10 +103,32 @@ limits-none state sight plan document h =
       records = within-passed Records _ _ second.0;
     }
 
+-- ---- limits, and documents that can't be made
+
+-- a limit that is passed is told first
+pub limit-comes : (way : Way) (desk : Desk) (sight : Sight) (plan : Plan)
+    (made : Result (Option Document) Refusal) (refusal : Refusal) →
+    limits_in way desk sight plan made ≡ Err refusal →
+    Comes way desk (or_stop (made_effect way desk sight plan made)) (Replies (Refused refusal))
+limit-comes way desk sight plan made refusal passed =
+    subst (λ (r : Result (Unit {0}) Refusal). Comes way desk (or_stop (r >>= λ _. made >>=
+    work_effect desk.setting desk.serial sight.drawn sight plan)) (Replies (Refused refusal)))
+    (sym passed) refl
+
+-- and else why it can't be made
+pub unmade-comes : (way : Way) (desk : Desk) (sight : Sight) (plan : Plan) (refusal : Refusal) →
+    limits_in way desk sight plan (Err refusal) ≡ Ok tt →
+    Comes way desk (or_stop (made_effect way desk sight plan (Err refusal)))
+    (Replies (Refused refusal))
+unmade-comes way desk sight plan refusal passed =
+    subst (λ (r : Result (Unit {0}) Refusal). Comes way desk (or_stop (r >>= λ _. Err refusal >>=
+    work_effect desk.setting desk.serial sight.drawn sight plan)) (Replies (Refused refusal)))
+    (sym passed) refl
+
 -- ---- a document that is put
 
-module _ (desk : Desk) (sight : Sight) (plan : Plan) (document : Document)
-    (seen : IsSightOf desk.serial sight) (suits : Suits sight plan)
+module _ (way : Way) (desk : Desk) (sight : Sight) (plan : Plan) (document : Document)
+    (seen : IsSightOf way desk.serial sight) (suits : Suits sight plan)
     (own : plan.doc ≡ document.doc) where
   number : document.doc.number ≡ number_with sight
   number = ap (λ (d : Doc). d.number) (sym own) ∙ suits.number
@@ -123,7 +149,7 @@ module _ (desk : Desk) (sight : Sight) (plan : Plan) (document : Document)
       one true = omega arith
       one false = omega arith
   few (Some b) is h =
-      let there = seen-there desk.serial sight seen b is in
+      let there = seen-there way desk.serial sight seen b is in
       let same : document.doc.number ≡ b.doc.number = number
       ∙ (λ i. number_with (record sight { before = is i })) in
       let found : document_at document.doc.number desk.serial.documents ≡ Some b =
@@ -139,7 +165,7 @@ module _ (desk : Desk) (sight : Sight) (plan : Plan) (document : Document)
       records_in (with_document document desk.serial.documents) ≤ most_kept_records
   within None is h = omega (arith, h, records-with document desk.serial.documents)
   within (Some b) is h =
-      let there = seen-there desk.serial sight seen b is in
+      let there = seen-there way desk.serial sight seen b is in
       let same : document.doc.number ≡ b.doc.number = number
       ∙ (λ i. number_with (record sight { before = is i })) in
       let found : document_at document.doc.number desk.serial.documents ≡ Some b =
@@ -152,11 +178,25 @@ module _ (desk : Desk) (sight : Sight) (plan : Plan) (document : Document)
       omega (arith, h, count)
 
   fits : IsWithinBounds document → PassesNone desk.serial sight document → Fits desk document
-  fits short none = record {
-    short = short;
-    few = few sight.before refl none.documents;
-    within = within sight.before refl none.records;
-  }
+  fits short none =
+      let fewer = few sight.before refl none.documents in
+      let fewer_records = within sight.before refl none.records in
+      record {
+        short = short;
+        few = omega (arith, fewer);
+        within = omega (arith, fewer_records);
+      }
+
+  -- a desk may put a document that passes its limits, and a replay asks later
+  may_put : IsWithinBounds document → limits_in way desk sight plan (Ok (Some document)) ≡ Ok tt →
+      MayMake way desk (Put document)
+  may_put short passed = at way passed
+    where
+      at : (way : Way) → limits_in way desk sight plan (Ok (Some document)) ≡ Ok tt →
+          MayMake way desk (Put document)
+      at (Served entry) h = fits short (limits-none desk.serial sight plan document
+          (then-passed (limits_of desk.serial sight plan (Ok (Some document))) _ h).0)
+      at (Replayed drawn) h = short
 
   acknowledged : (source : Source) → IsPut source → acknowledgement_of plan.doc source
       ≡ Stands document.doc.active document.doc.number document.doc.state
@@ -175,7 +215,7 @@ module _ (desk : Desk) (sight : Sight) (plan : Plan) (document : Document)
       let drawn : document.doc.number ≡ sight.drawn = number
       ∙ (λ i. number_with (record sight { before = is i })) in ap (max top) (sym drawn)
   raised top records kept (Some b) is =
-      let there = seen-there desk.serial sight seen b is in
+      let there = seen-there way desk.serial sight seen b is in
       let same : document.doc.number ≡ b.doc.number = number
       ∙ (λ i. number_with (record sight { before = is i })) in
       let low : b.doc.number ≤ top = All-at (λ d. d.doc.number ≤ top) b.doc.number
@@ -183,11 +223,11 @@ module _ (desk : Desk) (sight : Sight) (plan : Plan) (document : Document)
       omega (arith, low, same, there.undrawn)
 
   put-leaves : (records : ℕ) → AreKept desk.serial.documents desk.serial.top records →
-      IsWithinBounds document → IsPut plan.source → PassesNone desk.serial sight document →
-      Leaves desk (effect_with desk.serial sight.drawn plan
+      IsPut plan.source → MayMake way desk (Put document) →
+      Leaves way desk (effect_with desk.serial sight.drawn plan
       (record { before = sight.before; after = Some document })) (Put document)
       (Stands document.doc.active document.doc.number document.doc.state)
-  put-leaves records kept short put none = record {
+  put-leaves records kept put may = record {
     answer_is = ap Acknowledged (acknowledged plan.source put);
     state_is = ap (λ n. record desk {
       serial = record desk.serial {
@@ -195,45 +235,44 @@ module _ (desk : Desk) (sight : Sight) (plan : Plan) (document : Document)
         top = n;
       };
     }) (raised desk.serial.top records kept sight.before refl);
-    may = fits short none;
+    may = may;
   }
 
   -- behind the limits stand the controls
-  limits-passed : limits_of desk.serial sight plan (Ok (Some document)) ≡ Ok tt →
-      made_effect desk sight plan (Ok (Some document))
+  limits-passed : limits_in way desk sight plan (Ok (Some document)) ≡ Ok tt →
+      made_effect way desk sight plan (Ok (Some document))
       ≡ work_effect desk.setting desk.serial sight.drawn sight plan (Some document)
   limits-passed passed = ap (λ (r : Result (Unit {0}) Refusal). r >>= λ _.
       work_effect desk.setting desk.serial sight.drawn sight plan (Some document)) passed
 
   pub put-comes : (records : ℕ) → AreKept desk.serial.documents desk.serial.top records →
       IsWithinBounds document → IsPut plan.source →
-      limits_of desk.serial sight plan (Ok (Some document)) ≡ Ok tt →
+      limits_in way desk sight plan (Ok (Some document)) ≡ Ok tt →
       control_fault desk.setting plan (with_document document desk.serial.documents) sight.before
       (Some document) ≡ None →
-      Comes desk (or_stop (made_effect desk sight plan (Ok (Some document))))
+      Comes way desk (or_stop (made_effect way desk sight plan (Ok (Some document))))
       (Changes (Put document)
       (Stands document.doc.active document.doc.number document.doc.state))
   unfolding work_effect
   put-comes records kept short put passed held =
-      let P : Result Effect Refusal → Type 0 = λ effect. Comes desk (or_stop effect)
+      let P : Result Effect Refusal → Type 0 = λ effect. Comes way desk (or_stop effect)
       (Changes (Put document)
       (Stands document.doc.active document.doc.number document.doc.state)) in
       subst P (sym (limits-passed passed
       ∙ ap (λ (f : Option Refusal). none_or f >>= λ _. Ok (effect_with desk.serial sight.drawn plan
       (record { before = sight.before; after = Some document }))) held))
-      (put-leaves records kept short put
-      (limits-none desk.serial sight plan document passed))
+      (put-leaves records kept put (may_put short passed))
 
   -- a control that fails refuses the document
   pub control-comes : (refusal : Refusal) →
-      limits_of desk.serial sight plan (Ok (Some document)) ≡ Ok tt →
+      limits_in way desk sight plan (Ok (Some document)) ≡ Ok tt →
       control_fault desk.setting plan (with_document document desk.serial.documents) sight.before
       (Some document) ≡ Some refusal →
-      Comes desk (or_stop (made_effect desk sight plan (Ok (Some document))))
+      Comes way desk (or_stop (made_effect way desk sight plan (Ok (Some document))))
       (Replies (Refused refusal))
   unfolding work_effect
   control-comes refusal passed failed =
-      let P : Result Effect Refusal → Type 0 = λ effect. Comes desk (or_stop effect)
+      let P : Result Effect Refusal → Type 0 = λ effect. Comes way desk (or_stop effect)
       (Replies (Refused refusal)) in
       subst P (sym (limits-passed passed
       ∙ ap (λ (f : Option Refusal). none_or f >>= λ _. Ok (effect_with desk.serial sight.drawn plan
@@ -241,15 +280,20 @@ module _ (desk : Desk) (sight : Sight) (plan : Plan) (document : Document)
 
 -- ---- a document that is removed
 
-module _ (desk : Desk) (sight : Sight) (plan : Plan) (seen : IsSightOf desk.serial sight)
+module _ (way : Way) (desk : Desk) (sight : Sight) (plan : Plan)
+    (seen : IsSightOf way desk.serial sight)
     (suits : Suits sight plan) (removed : plan.source ≡ Removed) where
+  may_remove : (way : Way) → MayMake way desk (Remove plan.doc.number)
+  may_remove (Served entry) = tt
+  may_remove (Replayed drawn) = tt
+
   remove-leaves : (before : Option Document) → sight.before ≡ before → IsSome before →
-      Leaves desk (effect_with desk.serial sight.drawn plan
+      Leaves way desk (effect_with desk.serial sight.drawn plan
       (record { before = sight.before; after = None })) (Remove plan.doc.number)
       (Swept plan.doc.number)
   remove-leaves None is some = cc
   remove-leaves (Some b) is some =
-      let there = seen-there desk.serial sight seen b is in
+      let there = seen-there way desk.serial sight seen b is in
       let same : plan.doc.number ≡ b.doc.number = suits.number
       ∙ (λ i. number_with (record sight { before = is i })) in
       let top : max desk.serial.top sight.drawn ≡ desk.serial.top =
@@ -265,7 +309,7 @@ module _ (desk : Desk) (sight : Sight) (plan : Plan) (seen : IsSightOf desk.seri
             ∙ ap (λ n. record desk {
               serial = record desk.serial { documents = without_document n desk.serial.documents };
             }) (sym same);
-        may = tt;
+        may = may_remove way;
       }
 
   -- nothing is controlled where a document is removed
@@ -275,12 +319,12 @@ module _ (desk : Desk) (sight : Sight) (plan : Plan) (seen : IsSightOf desk.seri
       (controls_of desk.setting (record plan { source = p }))
       (documents_with sight.before None desk.serial.documents) sight.before None) removed
 
-  pub remove-comes : limits_of desk.serial sight plan (Ok None) ≡ Ok tt →
-      Comes desk (or_stop (made_effect desk sight plan (Ok None)))
+  pub remove-comes : limits_in way desk sight plan (Ok None) ≡ Ok tt →
+      Comes way desk (or_stop (made_effect way desk sight plan (Ok None)))
       (Changes (Remove plan.doc.number) (Swept plan.doc.number))
   unfolding work_effect
   remove-comes passed =
-      let P : Result Effect Refusal → Type 0 = λ effect. Comes desk (or_stop effect)
+      let P : Result Effect Refusal → Type 0 = λ effect. Comes way desk (or_stop effect)
       (Changes (Remove plan.doc.number) (Swept plan.doc.number)) in
       subst P (sym (ap (λ (r : Result (Unit {0}) Refusal). r >>= λ _.
       work_effect desk.setting desk.serial sight.drawn sight plan None) passed

@@ -9,23 +9,22 @@ use Rattle.desk_model.specs.Plans.{Question}
 use Rattle.desk_model.specs.Questions.{IsAnswer}
 use Rattle.desk_model.specs.Stops.{or_stop}
 use Rattle.desk_model.specs.Serial.{question_answer, question_effect, answer_effect}
-use Rattle.desk_core.specs.declared.outcome.Outcome.TheVariants.{Replies}
-use Rattle.desk_core.specs.Outcomes.{Comes}
+use Rattle.desk_core.specs.Outcomes.{IsReplied}
 
 pub answered-comes : (desk : Desk) (question : Result Question Refusal) (answer : Answer)
     → IsAnswer answer → question_answer desk.serial.documents question ≡ Ok answer
-    → Comes desk (or_stop (question_effect desk.serial question)) (Replies (Done answer))
+    → IsReplied desk (or_stop (question_effect desk.serial question)) (Done answer)
 unfolding question_effect
 answered-comes desk question answer good h =
     subst (λ (r : Result Answer Refusal).
-    Comes desk (or_stop (r >>= λ a. Ok (answer_effect desk.serial a))) (Replies (Done answer)))
+    IsReplied desk (or_stop (r >>= λ a. Ok (answer_effect desk.serial a))) (Done answer))
     (sym h) (record { reply_is = refl; state_is = refl; answer = good })
 
 pub refused-comes : (desk : Desk) (question : Result Question Refusal) (refusal : Refusal)
     → question_answer desk.serial.documents question ≡ Err refusal
-    → Comes desk (or_stop (question_effect desk.serial question)) (Replies (Refused refusal))
+    → IsReplied desk (or_stop (question_effect desk.serial question)) (Refused refusal)
 unfolding question_effect
 refused-comes desk question refusal h =
     subst (λ (r : Result Answer Refusal).
-    Comes desk (or_stop (r >>= λ a. Ok (answer_effect desk.serial a)))
-    (Replies (Refused refusal))) (sym h) refl
+    IsReplied desk (or_stop (r >>= λ a. Ok (answer_effect desk.serial a))) (Refused refusal))
+    (sym h) refl

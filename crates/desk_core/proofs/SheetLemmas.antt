@@ -1,6 +1,6 @@
 -- The records of a register are few, and their numbers not too large.
-use Rattle.std.proofs.Common.{◌≡◌, ℕ, zero, suc, ◌+◌, ◌≤◌, ℤ, Bool, true, false, ◌&&◌, cond}
-use Rattle.std.proofs.Common.{unsigned_abs, nat_le, List, [], ◌∷◌, ◌++◌}
+use Rattle.std.proofs.Common.{◌≡◌, ℕ, zero, suc, ◌≤◌, Bool, true, false, ◌&&◌, cond}
+use Rattle.std.proofs.Common.{unsigned_abs, List, [], ◌∷◌}
 use Rattle.std.proofs.Common.{map, length, refl, ap, arith}
 use Rattle.std.proofs.Common.{length-append}
 use Rattle.std.specs.Prelude.{slice_get, unwrap_or}
@@ -139,7 +139,7 @@ all-small register (d ∷ ds) all =
 
 -- documents within bounds that have few records make sheets
 pub documents-sheet : (documents : List Document) → All IsWithinBounds documents
-    → records_in documents ≤ 2_000_000 → (register : ℕ) → IsSheet (records_of register documents)
+    → records_in documents ≤ 8_000_000 → (register : ℕ) → IsSheet (records_of register documents)
 documents-sheet documents bounds few register = record {
   few = omega (
     arith,

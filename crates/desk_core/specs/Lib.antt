@@ -1,7 +1,12 @@
 pub mod Books
+pub mod Changes
 pub mod Controls
 pub mod DeskViews
+pub mod Histories
 pub mod Invariants
 pub mod Lines
 pub mod Outcomes
+pub mod Replaying
 pub mod SeenStates
+pub mod Serving
+pub mod Ways

@@ -3,24 +3,25 @@ use Rattle.std.specs.Prelude.{◌≡◌, ℕ, Option, Some, None, option_and_the
 use Rattle.reg_base.specs.Documents.{document_at, holder_of}
 use Rattle.desk_model.specs.State.{State}
 use Rattle.desk_model.specs.Plans.{Sight}
-use Rattle.desk_model.specs.Desk.{next_number}
+use Rattle.desk_core.specs.declared.way.Way.{Way}
+use Rattle.desk_core.specs.Ways.{new_number}
 
--- the number that is drawn for a new document, and 0 where one is named
-abbrev pub drawn_for : State → Option ℕ → ℕ
-drawn_for state None = next_number state
-drawn_for state (Some number) = 0
+-- the number that a new document gets, and 0 where one is named
+abbrev pub drawn_for : Way → State → Option ℕ → ℕ
+drawn_for way state None = new_number way state
+drawn_for way state (Some number) = 0
 
 -- what a change sees of a state that names this document and gives this key
-abbrev pub sight_at : State → Option ℕ → Option (List ℕ) → Sight
-sight_at state doc key = record {
+abbrev pub sight_at : Way → State → Option ℕ → Option (List ℕ) → Sight
+sight_at way state doc key = record {
   before = option_and_then (λ n. document_at n state.documents) doc;
   holder = option_and_then (λ k. holder_of k state.documents) key;
   closed = state.closed;
-  drawn = drawn_for state doc;
+  drawn = drawn_for way state doc;
 }
 
 -- a sight is that of some change
-pub record IsSightOf (state : State) (sight : Sight) : Type 0 where
+pub record IsSightOf (way : Way) (state : State) (sight : Sight) : Type 0 where
   pub doc : Option ℕ
   pub key : Option (List ℕ)
-  pub same : sight ≡ sight_at state doc key
+  pub same : sight ≡ sight_at way state doc key

@@ -1,63 +1,57 @@
-//! The changes of a desk: what an entry commits.
-ghost use Rattle.std.specs.Prelude.{◌≡◌, ◌≤◌, OnOk, OnErr};
+//! The changes of a desk: what they leave, and how they are staged.
+ghost use Rattle.std.specs.Prelude.{◌≡◌, ◌≤◌, [], OnOk, OnErr};
 ghost use Rattle.reg_base.specs.Documents.{with_document, without_document};
 ghost use Rattle.desk_model.specs.Limits.{records_in};
-ghost use Rattle.desk_core.specs.declared.outcome.Change.TheVariants as ChangeIs;
-ghost use Rattle.desk_core.specs.DeskViews.{Fits, changed};
+ghost use Rattle.desk_core.specs.DeskViews.{IsShortChange};
+ghost use Rattle.desk_core.specs.Changes.{DropsBack, IsLeft, Stages};
 ghost use Rattle.desk_plans.specs.Bounds.{IsWithinBounds};
 
 use crate::desk::Desk;
+use crate::outcome::Change;
 use desk_plans::record_count;
+use doc_store::Store;
 use reg_base::{Date, Document, Memory};
 
+/// What a change leaves of the counts of a desk.
+#[derive(Drop)]
+pub struct Left {
+    pub records: u32,
+    pub top: u32,
+    pub closed: Date,
+}
+
 impl Desk {
-    // Puts a document in the place of its number. Want of memory leaves the desk as it was.
-    pub(crate) fn put(&mut self, document: Document) -> Result<(), Memory>
-        requires { Fits self.old.desk document }
-        ensures ok { OnOk result
-            (self.new.desk ≡ changed self.old.desk (ChangeIs.Put document)) }
-        ensures err { OnErr result (self.new.desk ≡ self.old.desk) }
-        ensures lasts { self.new.spare_lasts ≡ self.old.spare_lasts }
+    // What a change leaves of the counts.
+    pub(crate) fn left_by(&self, change: &Change) -> Left
+        requires { IsShortChange change.now }
+        ensures value { IsLeft self.now.desk change.now result }
+        ensures few { result.records ≤ 8_200_000 }
     {
-        let records = self.records_with(&document);
-        let Document { doc, sets } = document;
-        let number = doc.number;
-        self.store.room(0, &doc, &sets)?;
-        self.store.stage(0, doc, sets);
-        self.store.keep(0);
-        self.records = records;
-        self.top = self.top.max(number);
-        Ok(())
-    }
-
-    // Removes the document of a number, where there is one. Want of memory leaves the desk as it
-    // was.
-    pub(crate) fn remove(&mut self, number: u32) -> Result<(), Memory>
-        ensures ok { OnOk result
-            (self.new.desk ≡ changed self.old.desk (ChangeIs.Remove number)) }
-        ensures err { OnErr result (self.new.desk ≡ self.old.desk) }
-        ensures lasts { self.new.spare_lasts ≡ self.old.spare_lasts }
-    {
-        let records = self.records_without(number);
-        self.store.stage_removal(0, number)?;
-        self.store.keep(0);
-        self.records = records;
-        Ok(())
-    }
-
-    // Closes the books before a date.
-    pub(crate) fn close(&mut self, date: Date)
-        ensures desk { self.new.desk ≡ changed self.old.desk (ChangeIs.Close date) }
-        ensures lasts { self.new.spare_lasts ≡ self.old.spare_lasts }
-    {
-        self.closed = date;
+        match change {
+            Change::Put(document) => Left {
+                records: self.records_with(document),
+                top: self.top.max(document.doc.number),
+                closed: self.closed,
+            },
+            Change::Remove(number) => Left {
+                records: self.records_without(*number),
+                top: self.top,
+                closed: self.closed,
+            },
+            Change::Close(date) => Left {
+                records: self.records,
+                top: self.top,
+                closed: *date,
+            },
+        }
     }
 
     // How many records there are with a document in the place of its number.
     fn records_with(&self, document: &Document) -> u32
         requires { IsWithinBounds document.now }
-        ensures { result
+        ensures value { result
             ≡ records_in (with_document document.now self.now.desk.serial.documents) }
+        ensures few { result ≤ 8_200_000 }
     {
         self.records_without(document.doc.number) + record_count(document)
     }
@@ -66,11 +60,36 @@ impl Desk {
     fn records_without(&self, number: u32) -> u32
         ensures value { result
             ≡ records_in (without_document number self.now.desk.serial.documents) }
-        ensures few { result ≤ 2_000_000 }
+        ensures few { result ≤ 8_000_000 }
     {
         match self.store.document(number) {
             Some(document) => self.records - record_count(document),
             None => self.records,
         }
     }
+}
+
+// Stages a change of documents; a closed date stages nothing.
+pub(crate) fn stage(store: &mut Store, change: Change) -> Result<(), Memory>
+    requires { store.old.staged ≡ [] }
+    ensures ok { OnOk result (Stages store.old store.new change) }
+    ensures err { OnErr result (DropsBack store.old store.new) }
+{
+    match change {
+        Change::Put(document) => stage_document(store, document),
+        Change::Remove(number) => store.stage_removal(0, number),
+        Change::Close(_) => Ok(()),
+    }
+}
+
+// Stages a document that is to be put.
+fn stage_document(store: &mut Store, document: Document) -> Result<(), Memory>
+    requires { store.old.staged ≡ [] }
+    ensures ok { OnOk result (Stages store.old store.new (Change.Put document)) }
+    ensures err { OnErr result (DropsBack store.old store.new) }
+{
+    let Document { doc, sets } = document;
+    store.room(0, &doc, &sets)?;
+    store.stage(0, doc, sets);
+    Ok(())
 }

@@ -65,6 +65,17 @@ pub(crate) fn number_of(request: &Request) -> Option<u32>
     }
 }
 
+// Whether a request makes a new document, and so has a number drawn for it.
+pub(crate) fn draws(request: &Request) -> bool
+    ensures { (config : ConfigOf) → result ≡ (meaning_of config request.now).draws }
+{
+    match request {
+        Request::Write(write) | Request::Post(Post::Content(write)) => write.doc.is_none(),
+        Request::Manual(manual) => manual.doc.is_none(),
+        _ => false,
+    }
+}
+
 // Whether a name is that of the clerk that is built in.
 pub(crate) fn is_batch(name: &Name) -> bool
     ensures { result ≡ is_batch_name name.now }

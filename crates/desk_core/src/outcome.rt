@@ -4,6 +4,7 @@ ghost use Rattle.desk_words.specs.ReplyTexts.{HasScales, reply_text};
 ghost use Rattle.desk_core.specs.declared.outcome.Outcome.TheVariants.{Replies};
 
 use desk_words::{Acknowledgement, Answer, Refusal, Reply};
+use post_journal::Payload;
 use reg_base::{Date, Document, Memory};
 use std::alloc::Global;
 
@@ -30,11 +31,13 @@ pub enum Outcome {
     },
 }
 
-/// What is left to be committed of a request: a change, and what it is acknowledged with.
+/// What is left to be committed of a request: a change, what it is acknowledged with, and the text
+/// of the journal's entry.
 #[derive(Drop)]
 pub struct Entry {
     pub change: Change,
     pub acknowledgement: Acknowledgement,
+    pub text: Payload,
 }
 
 /// A reply with its text, and what is left to be committed: all that a commit needs besides its
@@ -105,11 +108,12 @@ pub(crate) fn prepare_reply(alloc: Global, reply: Reply) -> Result<Prepared, Mem
     })
 }
 
-// A change with the text of its acknowledgement.
+// A change with the text of its acknowledgement, and that of its entry.
 pub(crate) fn prepare_change(
     alloc: Global,
     change: Change,
     acknowledgement: &Acknowledgement,
+    entry: Payload,
 ) -> Result<Prepared, Memory>
     ensures reply { IfOk result
         (λ prepared. prepared.reply ≡ Reply.Done (Answer.Acknowledged acknowledgement.now)) }
@@ -118,6 +122,7 @@ pub(crate) fn prepare_change(
     ensures entry { IfOk result (λ prepared. prepared.entry ≡ Some (record {
       change = change;
       acknowledgement = acknowledgement.now;
+      text = entry;
     })) }
 {
     let reply = Reply::Done(Answer::Acknowledged(*acknowledgement));
@@ -132,6 +137,7 @@ pub(crate) fn prepare_change(
         entry: Some(Entry {
             change,
             acknowledgement: *acknowledgement,
+            text: entry,
         }),
     })
 }

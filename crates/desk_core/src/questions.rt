@@ -8,12 +8,13 @@ ghost use Rattle.desk_words.specs.declared.request.Request.TheVariants as Reques
 ghost use Rattle.desk_model.specs.Plans.{Question};
 ghost use Rattle.desk_model.specs.Questions.{IsAnswer, question_doc};
 ghost use Rattle.desk_model.specs.State.{Desk as DeskOf};
-ghost use Rattle.desk_model.specs.Stops.{or_stop};
+ghost use Rattle.desk_model.specs.Stops.{Stop, or_stop};
 ghost use Rattle.desk_model.specs.Serial.{question_answer, question_effect};
-ghost use Rattle.desk_core.specs.Outcomes.{Comes, deed_at};
+ghost use Rattle.desk_core.specs.Outcomes.{IsReplied};
+ghost use Rattle.desk_core.specs.Ways.{deed_in};
+ghost use Rattle.desk_core.specs.declared.way.Way.{Way as WayOf};
 
 use crate::desk::Desk;
-use crate::outcome::{Outcome, refusal_outcome};
 use desk_plans::{PartFault, Tried, shown_document};
 use desk_tables::{
     answer_account_balance, answer_account_both, answer_account_turnovers, answer_balance,
@@ -28,93 +29,93 @@ use reg_base::Memory;
 use std::alloc::Global;
 
 impl Desk {
-    pub(crate) fn balance_outcome(
-        &self,
-        alloc: Global,
-        question: &Balance,
-    ) -> Result<Outcome, Memory>
-        ensures { IfOk result (Comes self.now.desk
-            (or_stop (deed_at self.now.desk (RequestIs.Balance question.now)))) }
+    pub(crate) fn balance_reply(&self, alloc: Global, question: &Balance) -> Result<Reply, Memory>
+        ensures { (way : WayOf) (tested : Result (Unit {0}) Stop) → IfOk result (IsReplied
+            self.now.desk (or_stop (deed_in way tested self.now.desk (RequestIs.Balance
+            question.now)))) }
     {
         answered(answer_balance(alloc, self.config(), self.walk(), question))
     }
 
-    pub(crate) fn turnovers_outcome(
+    pub(crate) fn turnovers_reply(
         &self,
         alloc: Global,
         question: &Turnovers,
-    ) -> Result<Outcome, Memory>
-        ensures { IfOk result (Comes self.now.desk
-            (or_stop (deed_at self.now.desk (RequestIs.Turnovers question.now)))) }
+    ) -> Result<Reply, Memory>
+        ensures { (way : WayOf) (tested : Result (Unit {0}) Stop) → IfOk result (IsReplied
+            self.now.desk (or_stop (deed_in way tested self.now.desk (RequestIs.Turnovers
+            question.now)))) }
     {
         answered(answer_turnovers(alloc, self.config(), self.walk(), question))
     }
 
-    pub(crate) fn both_outcome(&self, alloc: Global, question: &Both) -> Result<Outcome, Memory>
-        ensures { IfOk result (Comes self.now.desk
-            (or_stop (deed_at self.now.desk (RequestIs.Both question.now)))) }
+    pub(crate) fn both_reply(&self, alloc: Global, question: &Both) -> Result<Reply, Memory>
+        ensures { (way : WayOf) (tested : Result (Unit {0}) Stop) → IfOk result (IsReplied
+            self.now.desk (or_stop (deed_in way tested self.now.desk (RequestIs.Both
+            question.now)))) }
     {
         answered(answer_both(alloc, self.config(), self.walk(), question))
     }
 
-    pub(crate) fn account_balance_outcome(
+    pub(crate) fn account_balance_reply(
         &self,
         alloc: Global,
         question: &AccountBalance,
-    ) -> Result<Outcome, Memory>
-        ensures { IfOk result (Comes self.now.desk
-            (or_stop (deed_at self.now.desk (RequestIs.AccountBalance question.now)))) }
+    ) -> Result<Reply, Memory>
+        ensures { (way : WayOf) (tested : Result (Unit {0}) Stop) → IfOk result (IsReplied
+            self.now.desk (or_stop (deed_in way tested self.now.desk (RequestIs.AccountBalance
+            question.now)))) }
     {
         answered(answer_account_balance(alloc, self.config(), self.walk(), question))
     }
 
-    pub(crate) fn account_turnovers_outcome(
+    pub(crate) fn account_turnovers_reply(
         &self,
         alloc: Global,
         question: &AccountTurnovers,
-    ) -> Result<Outcome, Memory>
-        ensures { IfOk result (Comes self.now.desk
-            (or_stop (deed_at self.now.desk (RequestIs.AccountTurnovers question.now)))) }
+    ) -> Result<Reply, Memory>
+        ensures { (way : WayOf) (tested : Result (Unit {0}) Stop) → IfOk result (IsReplied
+            self.now.desk (or_stop (deed_in way tested self.now.desk (RequestIs.AccountTurnovers
+            question.now)))) }
     {
         answered(answer_account_turnovers(alloc, self.config(), self.walk(), question))
     }
 
-    pub(crate) fn account_both_outcome(
+    pub(crate) fn account_both_reply(
         &self,
         alloc: Global,
         question: &AccountTurnovers,
-    ) -> Result<Outcome, Memory>
-        ensures { IfOk result (Comes self.now.desk
-            (or_stop (deed_at self.now.desk (RequestIs.AccountBoth question.now)))) }
+    ) -> Result<Reply, Memory>
+        ensures { (way : WayOf) (tested : Result (Unit {0}) Stop) → IfOk result (IsReplied
+            self.now.desk (or_stop (deed_in way tested self.now.desk (RequestIs.AccountBoth
+            question.now)))) }
     {
         answered(answer_account_both(alloc, self.config(), self.walk(), question))
     }
 
-    pub(crate) fn pairs_outcome(&self, alloc: Global, question: &DrCr) -> Result<Outcome, Memory>
-        ensures { IfOk result (Comes self.now.desk
-            (or_stop (deed_at self.now.desk (RequestIs.DrCr question.now)))) }
+    pub(crate) fn pairs_reply(&self, alloc: Global, question: &DrCr) -> Result<Reply, Memory>
+        ensures { (way : WayOf) (tested : Result (Unit {0}) Stop) → IfOk result (IsReplied
+            self.now.desk (or_stop (deed_in way tested self.now.desk (RequestIs.DrCr
+            question.now)))) }
     {
         answered(answer_pairs(alloc, self.config(), self.walk(), question))
     }
 
-    pub(crate) fn documents_outcome(
+    pub(crate) fn documents_reply(
         &self,
         alloc: Global,
         question: &DocumentsQuestion,
-    ) -> Result<Outcome, Memory>
-        ensures { IfOk result (Comes self.now.desk
-            (or_stop (deed_at self.now.desk (RequestIs.Documents question.now)))) }
+    ) -> Result<Reply, Memory>
+        ensures { (way : WayOf) (tested : Result (Unit {0}) Stop) → IfOk result (IsReplied
+            self.now.desk (or_stop (deed_in way tested self.now.desk (RequestIs.Documents
+            question.now)))) }
     {
         answered(answer_documents(alloc, self.config(), &self.store, question))
     }
 
-    pub(crate) fn show_outcome(
-        &self,
-        alloc: Global,
-        question: &DocQuestion,
-    ) -> Result<Outcome, Memory>
-        ensures { IfOk result (Comes self.now.desk
-            (or_stop (deed_at self.now.desk (RequestIs.Doc question.now)))) }
+    pub(crate) fn show_reply(&self, alloc: Global, question: &DocQuestion) -> Result<Reply, Memory>
+        ensures { (way : WayOf) (tested : Result (Unit {0}) Stop) → IfOk result (IsReplied
+            self.now.desk (or_stop (deed_in way tested self.now.desk (RequestIs.Doc question.now)))) }
     {
         answered(self.show(alloc, question))
     }
@@ -144,15 +145,15 @@ impl Desk {
 }
 
 // What a question comes to that was answered, or refused.
-fn answered(tried: Tried<Answer>) -> Result<Outcome, Memory>
+fn answered(tried: Tried<Answer>) -> Result<Reply, Memory>
     requires { IfOk tried IsAnswer }
     ensures { (desk : DeskOf) (question : Result Question RefusalOf)
         → Tries tried (question_answer desk.serial.documents question)
-        → IfOk result (Comes desk (or_stop (question_effect desk.serial question))) }
+        → IfOk result (IsReplied desk (or_stop (question_effect desk.serial question))) }
 {
     match tried {
-        Ok(answer) => Ok(Outcome::Replies(Reply::Done(answer))),
-        Err(PartFault::Refused(refusal)) => Ok(refusal_outcome(refusal)),
+        Ok(answer) => Ok(Reply::Done(answer)),
+        Err(PartFault::Refused(refusal)) => Ok(Reply::Refused(refusal)),
         Err(PartFault::Memory) => Err(Memory),
     }
 }

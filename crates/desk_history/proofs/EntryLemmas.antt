@@ -16,7 +16,8 @@ use Rattle.desk_words.specs.Reading.{request}
 use Rattle.desk_words.specs.RequestTexts.{request_text}
 use Rattle.desk_words.specs.WellFormed.{IsRequest}
 use Rattle.desk_model.specs.State.{Command}
-use Rattle.desk_history.specs.Entries.{command_text, commands_text, leading_digits, behind_digits}
+use Rattle.desk_model.specs.Journals.{command_text, commands_text}
+use Rattle.desk_history.specs.Entries.{leading_digits, behind_digits}
 use Rattle.desk_history.specs.Entries.{read_command, command_of}
 
 -- the canonical text of every well-formed request is read as that request

@@ -10,15 +10,8 @@ use Rattle.std.specs.declared.cmp.Ordering.{Ordering}
 use Rattle.std.specs.declared.cmp.Ordering.TheVariants.{Less, Equal, Greater}
 use Rattle.reg_base.specs.declared.line.Line.{Line}
 use Rattle.reg_base.specs.Results.{◌>>=◌, unless, some_or}
-use Rattle.cfg_model.specs.declared.config.Config.{Config}
 use Rattle.desk_words.specs.declared.fault.WordFault.{WordFault}
 use Rattle.desk_words.specs.declared.request.Request.{Request}
-use Rattle.desk_words.specs.declared.request.Request.TheVariants.{Write, Post, Unpost, Mark, Manual}
-use Rattle.desk_words.specs.declared.request.Request.TheVariants.{Activity, Close, Sweep, Balance}
-use Rattle.desk_words.specs.declared.request.Request.TheVariants.{Doc, Turnovers, Both, Documents}
-use Rattle.desk_words.specs.declared.request.Request.TheVariants.{AccountBalance, AccountTurnovers}
-use Rattle.desk_words.specs.declared.request.Request.TheVariants.{AccountBoth, DrCr}
-use Rattle.desk_words.specs.declared.request.Post.TheVariants.{Content, Standing}
 use Rattle.desk_words.specs.declared.reply.Answer.{Answer}
 use Rattle.desk_words.specs.declared.reply.Refusal.{Refusal}
 use Rattle.desk_words.specs.declared.reply.Refusal.TheVariants.{UnknownClerk, NotAllowed, Stale}
@@ -29,7 +22,6 @@ use Rattle.desk_model.specs.State.{Setting, State, Desk, Command, first_state}
 use Rattle.desk_model.specs.Stops.{Stop, refuses, or_stop}
 use Rattle.desk_model.specs.Effects.{Effect}
 use Rattle.desk_model.specs.Plans.{Meaning, Deed, Question, changes, closes, asks}
-use Rattle.desk_model.specs.Meanings.{meaning_of}
 use Rattle.desk_model.specs.Clerks.{is_allowed, is_batch, is_clerk}
 use Rattle.desk_model.specs.LastRequests.{is_same, last_of, number_after, number_test, same_number}
 use Rattle.desk_model.specs.Limits.{greatest_number, records_in}
@@ -40,7 +32,9 @@ use Rattle.desk_model.specs.Desk.{step, tests_of}
 use Rattle.desk_model.specs.Answers.{event_of_reading, is_blank_line, line_desk}
 use Rattle.desk_model.specs.Answers.{refusal_event}
 use Rattle.desk_model.specs.Laws.{AreNumbered, Replays}
-use Rattle.desk_history.specs.Entries.{command_of, commands_text}
+use Rattle.desk_model.specs.Journals.{commands_text}
+use Rattle.desk_model.proofs.ForAbove.{HasNumber, meaning-HasNumber}
+use Rattle.desk_history.specs.Entries.{command_of}
 use Rattle.desk_history.specs.Replays.{is_above, is_next, most_replayed_records}
 use Rattle.desk_history.specs.Replays.{replay_command, replay_entry, replay_from, replayed}
 use Rattle.desk_history.specs.Histories.{AreFew, LineReplays, StepReplays}
@@ -118,34 +112,7 @@ passed true true first second (Err stop) done effect e = absurd (cc)
 passed true false first second number done effect e = absurd (cc)
 passed false allowed first second number done effect e = absurd (cc)
 
--- ---- what has a number
-
--- what changes has a number, and a question has none
-abbrev HasNumber : Option ℕ → Deed → Type 0
-HasNumber number (changes change) = is_some number ≡ true
-HasNumber number (closes date) = is_some number ≡ true
-HasNumber number (asks question) = number ≡ None
-
-meaning-HasNumber : (config : Config) (r : Request) →
-    HasNumber (meaning_of config r).number (meaning_of config r).deed
-meaning-HasNumber config (Write w) = refl
-meaning-HasNumber config (Post (Content w)) = refl
-meaning-HasNumber config (Post (Standing s)) = refl
-meaning-HasNumber config (Unpost u) = refl
-meaning-HasNumber config (Mark m) = refl
-meaning-HasNumber config (Manual m) = refl
-meaning-HasNumber config (Activity m) = refl
-meaning-HasNumber config (Close c) = refl
-meaning-HasNumber config (Sweep s) = refl
-meaning-HasNumber config (Balance b) = refl
-meaning-HasNumber config (Turnovers t) = refl
-meaning-HasNumber config (Both b) = refl
-meaning-HasNumber config (AccountBalance b) = refl
-meaning-HasNumber config (AccountTurnovers t) = refl
-meaning-HasNumber config (AccountBoth t) = refl
-meaning-HasNumber config (DrCr q) = refl
-meaning-HasNumber config (Documents q) = refl
-meaning-HasNumber config (Doc q) = refl
+-- ---- questions
 
 -- a question leaves the state
 question-keeps : (state : State) (question : Result Question Refusal) (effect : Effect) →

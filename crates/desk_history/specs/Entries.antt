@@ -1,29 +1,20 @@
 -- The text of an entry of the journal, and the command that a text is.
 use Rattle.std.specs.Prelude.{ℕ, ◌+◌, ◌-◌, ◌^◌, ◌&&◌, nat_lt, if◌then◌else◌, Option, Some, None}
-use Rattle.std.specs.Prelude.{option_and_then, List, [], ◌∷◌, ◌++◌, length, take, drop}
+use Rattle.std.specs.Prelude.{option_and_then, List, length, take, drop}
 use Rattle.std.specs.Char.{is_ascii_digit}
-use Rattle.std.specs.List.{flat_map, prefix_len}
+use Rattle.std.specs.List.{prefix_len}
 use Rattle.std.specs.Option.{option_map}
 use Rattle.std.specs.Result.{result_ok}
 use Rattle.std.specs.Str.{bytes_eq}
-use Rattle.reg_base.specs.Numbers.{decimal_value, number_text}
+use Rattle.reg_base.specs.Numbers.{decimal_value}
 use Rattle.desk_words.specs.Reading.{request_of_text}
-use Rattle.desk_words.specs.RequestTexts.{request_text}
 use Rattle.desk_model.specs.State.{Command}
+use Rattle.desk_model.specs.Journals.{command_text}
 use Rattle.desk_history.specs.declared.entry.Command.{Command as Drawn}
 
 -- a command as the code holds it, as the machine's
 abbrev pub command_view : Drawn → Command
 command_view c = record { number = c.number; request = c.request }
-
--- the line of a command: the number that was drawn for its document, or 0, a space, and the
--- canonical text of its request
-abbrev pub command_text : Command → List ℕ
-command_text c = number_text c.number ++ 32 ∷ (request_text c.request ++ 10 ∷ [])
-
--- the text of an entry: the lines of its commands
-abbrev pub commands_text : List Command → List ℕ
-commands_text commands = flat_map command_text commands
 
 -- how many digits a text begins with
 abbrev pub leading_digits : List ℕ → ℕ

@@ -9,7 +9,7 @@ use Rattle.desk_model.specs.Limits.{records_in}
 use Rattle.desk_model.specs.Desk.{Event, step}
 use Rattle.desk_model.specs.Answers.{is_blank_line, line_event, line_desk}
 use Rattle.desk_model.specs.Laws.{AreNumbered}
-use Rattle.desk_history.specs.Entries.{commands_text}
+use Rattle.desk_model.specs.Journals.{commands_text}
 use Rattle.desk_history.specs.Replays.{most_replayed_records, replayed}
 
 -- the entries that an event commits

@@ -6,7 +6,8 @@ ghost use Rattle.reg_base.specs.Numbers.{number_text};
 ghost use Rattle.desk_words.specs.Reading.{request_of_text};
 ghost use Rattle.desk_words.specs.WellFormed.{IsRequest};
 ghost use Rattle.desk_model.specs.State.{Command as CommandOf};
-ghost use Rattle.desk_history.specs.Entries.{command_view, command_of, commands_text};
+ghost use Rattle.desk_model.specs.Journals.{commands_text};
+ghost use Rattle.desk_history.specs.Entries.{command_view, command_of};
 ghost use Rattle.desk_history.specs.Entries.{behind_digits as behind_digits_of};
 ghost use Rattle.desk_history.specs.Entries.{if_spelt as if_spelt_of};
 

@@ -4,7 +4,8 @@ ghost use Rattle.reg_base.specs.declared.line.Line.{Line};
 ghost use Rattle.desk_words.specs.declared.request.Request.{Request};
 ghost use Rattle.desk_words.specs.WellFormed.{IsRequest};
 ghost use Rattle.desk_model.specs.State.{Command, Desk};
-ghost use Rattle.desk_history.specs.Entries.{command_of, commands_text};
+ghost use Rattle.desk_model.specs.Journals.{commands_text};
+ghost use Rattle.desk_history.specs.Entries.{command_of};
 ghost use Rattle.desk_history.specs.Histories.{LineReplays, StepReplays};
 
 use desk_model::accepted_requests_replay;

@@ -2,6 +2,7 @@ pub mod ErrorLemmas
 pub mod ForAbove
 pub mod LawLemmas
 pub mod NumberLemmas
+pub mod NumberedDeeds
 pub mod QuestionLemmas
 pub mod RefusalScales
 pub mod RepeatLemmas

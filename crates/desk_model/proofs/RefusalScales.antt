@@ -27,6 +27,7 @@ use Rattle.desk_words.specs.declared.reply.Field.TheVariants.{Space, Values, Sum
 use Rattle.desk_words.specs.declared.reply.Field.TheVariants.{Named}
 use Rattle.desk_words.specs.declared.reply.Limit.{Limit as LimitOf}
 use Rattle.desk_words.specs.declared.reply.Limit.TheVariants.{Documents, Records, Lines, Numbers}
+use Rattle.desk_words.specs.declared.reply.Limit.TheVariants.{Journal}
 use Rattle.desk_words.specs.declared.reply.Refusal.{Refusal}
 use Rattle.desk_words.specs.declared.reply.Refusal.TheVariants.{UnknownDoc, WrongState, BadField}
 use Rattle.desk_words.specs.declared.reply.Refusal.TheVariants.{Closed, Limit, Rule}
@@ -58,10 +59,10 @@ use Rattle.desk_model.specs.Writes.{plan_content, plan_write}
 use Rattle.desk_model.specs.Entries.{most_entries, is_entry_made, or_entry_fault, entry_at}
 use Rattle.desk_model.specs.Entries.{entries_from, entry_set}
 use Rattle.desk_model.specs.RecordSets.{most_records, is_made, record_set, with_set, with_given}
-use Rattle.desk_model.specs.RecordSets.{no_sets, given_by_hand}
 use Rattle.desk_model.specs.Limits.{within_limit, records_with, most_kept_records, records_limit}
 use Rattle.desk_model.specs.Limits.{most_documents, documents_with_plan, most_lines, number_is_left}
 use Rattle.desk_model.specs.Limits.{greatest_number, limits_of}
+use Rattle.desk_model.specs.Journals.{entry_limit, longer, most_entry, most_journal}
 use Rattle.desk_model.proofs.ErrorLemmas.{IfErr-then, IfErr-unless, IfErr-some_or, IfErr-each}
 
 -- what is tried is refused, if it is, without a number that wants a scale
@@ -288,6 +289,12 @@ limits_of-plainly state sight plan made =
     (λ v. then (within_limit Lines (length plan.doc.lines) most_lines) _
     (within_limit-plainly Lines (length plan.doc.lines) most_lines)
     (λ w. test (number_is_left state sight) (Limit Numbers greatest_number) tt)))
+
+pub entry_limit-plainly : (journal count : ℕ) → Plainly (entry_limit journal count)
+unfolding entry_limit
+entry_limit-plainly journal count =
+    then (within_limit Journal count most_entry) _ (within_limit-plainly Journal count most_entry)
+    (λ u. within_limit-plainly Journal (longer journal count) most_journal)
 
 -- ---- records that are made
 

@@ -23,7 +23,7 @@ use Rattle.reg_base.specs.Documents.{document_at}
 use Rattle.desk_model.specs.declared.plan.Plan.{Plan}
 use Rattle.desk_model.specs.State.{Setting, State, Desk}
 use Rattle.desk_model.specs.Plans.{Sight, Change, Deed, changes, closes, asks}
-use Rattle.desk_model.specs.Effects.{Effect, Tests, no_tests, effect_with}
+use Rattle.desk_model.specs.Effects.{Effect, Tests, no_tests, close_effect}
 use Rattle.desk_model.specs.Stops.{Stop, refuses, or_stop}
 use Rattle.desk_model.specs.Limits.{greatest_number, most_documents, most_lines, within_limit}
 use Rattle.desk_model.specs.Limits.{documents_with_plan, records_limit, number_is_left, limits_of}
@@ -78,6 +78,7 @@ record Passes (tests : Tests) (setting : Setting) (state : State) (number : ℕ)
   plan : Plan
   passed : tests.limits (sight_of state number change) plan
       (made_at setting state (sight_of state number change) plan) ≡ Ok tt
+  entered : tests.entry ≡ Ok tt
   same : change_effect no_tests setting state number change ≡ Ok effect
 
 change_effect-passes : (tests : Tests) (setting : Setting) (state : State) (number : ℕ)
@@ -91,32 +92,44 @@ change_effect-passes tests setting state number change effect accepted =
     sight : Sight
     sight = sight_of state number change
 
-    test : (plan : Plan) → change.plan sight ≡ Ok plan → (tested : Result (Unit {0}) Refusal) →
+    test : (plan : Plan) → change.plan sight ≡ Ok plan →
+        (tested entered : Result (Unit {0}) Refusal) →
         tests.limits sight plan (made_at setting state sight plan) ≡ tested →
-        (tested >>= λ _. behind setting state number sight plan) ≡ Ok effect →
+        tests.entry ≡ entered →
+        (tested >>= λ _. entered >>= λ _. behind setting state number sight plan) ≡ Ok effect →
         Passes tests setting state number change effect
-    test plan planned (Ok u) is h = record {
+    test plan planned (Ok u) (Ok v) is enters h = record {
       plan = plan;
       passed = is;
+      entered = enters;
       same = ap (λ (r : Result Plan Refusal). r >>= λ p. behind setting state number sight p)
           planned ∙ h;
     }
-    test plan planned (Err refusal) is h = cc
+    test plan planned (Ok u) (Err refusal) is enters h = cc
+    test plan planned (Err refusal) entered is enters h = cc
 
     at : (planned : Result Plan Refusal) → change.plan sight ≡ planned →
         (planned >>= λ plan. tests.limits sight plan (made_at setting state sight plan)
-        >>= λ _. behind setting state number sight plan) ≡ Ok effect
+        >>= λ _. tests.entry >>= λ _. behind setting state number sight plan) ≡ Ok effect
         → Passes tests setting state number change effect
     at (Ok plan) is h =
-        test plan is (tests.limits sight plan (made_at setting state sight plan)) refl h
+        test plan is (tests.limits sight plan (made_at setting state sight plan)) tests.entry refl
+        refl h
     at (Err refusal) is h = cc
+
+-- what stands behind a test that was passed
+then_rest : (tested : Result (Unit {0}) Refusal) (rest : Result Effect Refusal) (effect : Effect) →
+    (tested >>= λ _. rest) ≡ Ok effect → rest ≡ Ok effect
+then_rest (Ok u) rest effect h = h
+then_rest (Err refusal) rest effect h = cc
 
 deed_effect-no_tests : (tests : Tests) (setting : Setting) (state : State) (number : ℕ)
     (deed : Deed) (effect : Effect) → deed_effect tests setting state number deed ≡ Ok effect →
     deed_effect no_tests setting state number deed ≡ Ok effect
 deed_effect-no_tests tests setting state number (changes change) effect h =
     (change_effect-passes tests setting state number change effect h).same
-deed_effect-no_tests tests setting state number (closes date) effect h = h
+deed_effect-no_tests tests setting state number (closes date) effect h =
+    then_rest tests.entry (Ok (close_effect state date)) effect h
 deed_effect-no_tests tests setting state number (asks question) effect h = h
 
 -- ---- a number that was drawn is free
@@ -143,18 +156,20 @@ limits_of-left state sight plan made h =
     (rest-passed (within_limit Documents (documents_with_plan state sight) most_documents) _ h)))
 
 -- a change that a desk accepts has a number of its own exactly where it draws one
-making-drawn : (tested : Result (Unit {0}) Stop) (setting : Setting) (state : State)
-    (doc : Option ℕ) (key : Option (List ℕ)) (plan : Sight → Result Plan Refusal)
-    (effect : Effect) → AreNumbered state →
-    change_effect (record { number = tested; limits = limits_of state }) setting state
+making-drawn : (tested : Result (Unit {0}) Stop) (entry : Result (Unit {0}) Refusal)
+    (setting : Setting) (state : State) (doc : Option ℕ) (key : Option (List ℕ))
+    (plan : Sight → Result Plan Refusal) (effect : Effect) → AreNumbered state →
+    change_effect (record { number = tested; limits = limits_of state; entry = entry }) setting
+    state
     (cond (is_none doc) (next_number state) 0) (record { doc = doc; key = key; plan = plan })
     ≡ Ok effect →
     is_drawn state (is_none doc) (cond (is_none doc) (next_number state) 0) ≡ true
-making-drawn tested setting state None key plan effect numbered h =
-    let passes = change_effect-passes (record { number = tested; limits = limits_of state })
-    setting state (next_number state) (record { doc = None; key = key; plan = plan }) effect h in
+making-drawn tested entry setting state None key plan effect numbered h =
+    let passes = change_effect-passes
+    (record { number = tested; limits = limits_of state; entry = entry }) setting state
+    (next_number state) (record { doc = None; key = key; plan = plan }) effect h in
     is_drawn-next state numbered (limits_of-left state _ passes.plan _ passes.passed)
-making-drawn tested setting state (Some number) key plan effect numbered h = refl
+making-drawn tested entry setting state (Some number) key plan effect numbered h = refl
 
 -- so has each request that a desk accepts
 drawn-at : (desk : Desk) (request : Request) (effect : Effect) → AreNumbered desk.serial →
@@ -162,14 +177,14 @@ drawn-at : (desk : Desk) (request : Request) (effect : Effect) → AreNumbered d
     desk.serial (command_at desk request).number (meaning_at desk request).deed ≡ Ok effect →
     is_drawn desk.serial (meaning_at desk request).draws (command_at desk request).number ≡ true
 drawn-at desk (Write w) effect numbered h =
-    making-drawn _ desk.setting desk.serial w.doc w.key _ effect numbered h
+    making-drawn _ _ desk.setting desk.serial w.doc w.key _ effect numbered h
 drawn-at desk (Post (Content w)) effect numbered h =
-    making-drawn _ desk.setting desk.serial w.doc w.key _ effect numbered h
+    making-drawn _ _ desk.setting desk.serial w.doc w.key _ effect numbered h
 drawn-at desk (Post (Standing s)) effect numbered h = refl
 drawn-at desk (Unpost u) effect numbered h = refl
 drawn-at desk (Mark m) effect numbered h = refl
 drawn-at desk (Manual m) effect numbered h =
-    making-drawn _ desk.setting desk.serial m.doc m.key _ effect numbered h
+    making-drawn _ _ desk.setting desk.serial m.doc m.key _ effect numbered h
 drawn-at desk (Activity m) effect numbered h = refl
 drawn-at desk (Close c) effect numbered h = refl
 drawn-at desk (Sweep s) effect numbered h = refl

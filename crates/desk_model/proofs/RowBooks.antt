@@ -1,5 +1,6 @@
 -- The books that the worked rows are asked of, and their requests in short.
-use Rattle.std.proofs.Common.{ℕ, Bool, true, false, Option, Some, None, List, [], ◌∷◌, codes}
+use Rattle.std.proofs.Common.{◌≡◌, ℕ, Bool, true, false, Option, Some, None, List, [], ◌∷◌, codes}
+use Rattle.std.proofs.Common.{Ok, sym}
 use Rattle.reg_base.specs.declared.cut.Cut.{Cut}
 use Rattle.reg_base.specs.declared.records.Mark.{Mark}
 use Rattle.reg_base.specs.declared.records.Mark.TheVariants.{Receipt}
@@ -51,7 +52,10 @@ use Rattle.desk_words.specs.declared.reply.Refusal.TheVariants.{BadField}
 use Rattle.desk_words.specs.declared.reply.Field.{Field as FieldOf}
 use Rattle.reg_base.specs.declared.records.DocState.{DocState}
 use Rattle.desk_model.specs.State.{Setting, Desk, first_desk}
-use Rattle.desk_model.specs.Desk.{step}
+use Rattle.desk_model.specs.Desk.{Event, command_at, entry_length, event_of, meaning_at, step}
+use Rattle.desk_model.specs.Desk.{tests_of}
+use Rattle.desk_model.specs.Journals.{entry_limit}
+use Rattle.desk_model.specs.Serial.{effect_of}
 
 -- ---- what the books are set up with
 
@@ -375,12 +379,26 @@ stands active doc state = Done (Acknowledged (DocumentStands active doc state))
 abbrev pub bad_field : FieldOf → Reply
 bad_field field = Refused (BadField field)
 
+-- one request, whose entry is not made as a text here: it passes its limit
+abbrev pub row_step : Desk → Request → Event
+row_step desk r = event_of desk (meaning_at desk r) (command_at desk r)
+    (effect_of (record (tests_of desk (meaning_at desk r) r) { entry = Ok tt }) desk.setting
+    desk.serial (command_at desk r))
+
+-- where it does, this is the step
+row_step-is : (desk : Desk) (r : Request) →
+    entry_limit desk.journal (entry_length desk r) ≡ Ok tt → row_step desk r ≡ step desk r
+unfolding step
+row_step-is desk r fits = λ i. event_of desk (meaning_at desk r) (command_at desk r)
+    (effect_of (record (tests_of desk (meaning_at desk r) r) { entry = sym fits i }) desk.setting
+    desk.serial (command_at desk r))
+
 -- the replies to requests, one after another
 abbrev pub replies : Desk → List Request → List Reply
 replies desk [] = []
-replies desk (r ∷ rs) = let event = step desk r in event.reply ∷ replies event.desk rs
+replies desk (r ∷ rs) = let event = row_step desk r in event.reply ∷ replies event.desk rs
 
 -- the desk after requests, one after another
 abbrev pub after : Desk → List Request → Desk
 after desk [] = desk
-after desk (r ∷ rs) = after (step desk r).desk rs
+after desk (r ∷ rs) = after (row_step desk r).desk rs

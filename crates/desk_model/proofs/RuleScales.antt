@@ -1,7 +1,7 @@
 -- The refusals of rules, of controls and of posting have their scales.
-use Rattle.std.proofs.Common.{◌≡◌, ℕ, ℤ, pos, Bool, true, false, cond, Option, Some, None, IfSome}
+use Rattle.std.proofs.Common.{ℕ, pos, Bool, true, false, cond, Option, Some, None, IfSome}
 use Rattle.std.proofs.Common.{List, [], ◌∷◌, ◌++◌, ◌&&◌, Result, Ok}
-use Rattle.std.proofs.Common.{Err, slice_get, nat_le, sym, subst}
+use Rattle.std.proofs.Common.{Err, slice_get, nat_le}
 use Rattle.std.proofs.Common.{refl}
 use Rattle.std.specs.Prelude.{int_lt}
 use Rattle.reg_base.specs.declared.fault.PostFault.{PostFault}
@@ -31,7 +31,6 @@ use Rattle.desk_model.specs.declared.plan.Source.TheVariants.{Removed}
 use Rattle.desk_model.specs.State.{Setting}
 use Rattle.desk_model.specs.Plans.{Sight}
 use Rattle.desk_model.specs.States.{named_is_seen, takes}
-use Rattle.desk_model.specs.Writes.{plan_content}
 use Rattle.desk_model.specs.Posts.{is_unmarked_kind, is_posted_kind, plan_post, plan_standing}
 use Rattle.desk_model.specs.Posts.{plan_unpost}
 use Rattle.desk_model.specs.RecordSets.{no_sets, given_by_hand}

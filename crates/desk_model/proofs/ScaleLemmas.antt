@@ -1,9 +1,8 @@
 -- Each number that a reply prints has its scale.
-use Rattle.std.proofs.Common.{◌≡◌, ℕ, Bool, true, false, Option, Some, None, List, map}
-use Rattle.std.proofs.Common.{length, All, Result, Ok, Err, IfErr, IfOk, ◌∙◌, sym}
-use Rattle.std.proofs.Common.{unwrap_or, slice_get}
+use Rattle.std.proofs.Common.{ℕ, Bool, true, false, Option, Some, None, List}
+use Rattle.std.proofs.Common.{Result, Ok, Err}
 use Rattle.reg_base.specs.declared.records.Document.{Document}
-use Rattle.reg_base.specs.Results.{◌>>=◌, unless, some_or, none_or}
+use Rattle.reg_base.specs.Results.{◌>>=◌, unless, none_or}
 use Rattle.desk_words.specs.declared.request.Request.{Request}
 use Rattle.desk_words.specs.declared.request.Request.TheVariants.{Write, Post, Unpost, Mark, Manual}
 use Rattle.desk_words.specs.declared.request.Request.TheVariants.{Activity, Close, Sweep, Balance}
@@ -15,7 +14,6 @@ use Rattle.desk_words.specs.declared.reply.Refusal.{Refusal}
 use Rattle.desk_words.specs.declared.reply.Refusal.TheVariants.{UnknownClerk, NotAllowed, Stale}
 use Rattle.desk_model.specs.declared.last.Last.{Last}
 use Rattle.desk_model.specs.LastRequests.{is_same, last_of, same_number, number_after, number_test}
-use Rattle.std.specs.Str.{bytes_eq}
 use Rattle.std.specs.Ordering.{nat_cmp, match_ordering}
 use Rattle.std.specs.declared.cmp.Ordering.{Ordering}
 use Rattle.std.specs.declared.cmp.Ordering.TheVariants.{Less, Equal, Greater}
@@ -30,6 +28,7 @@ use Rattle.desk_model.specs.Serial.{sight_of, made_at, work_effect, plan_effect,
 use Rattle.desk_model.specs.Serial.{deed_effect, effect_of}
 use Rattle.desk_model.specs.Clerks.{is_clerk, is_allowed}
 use Rattle.desk_model.specs.Desk.{meaning_at, command_at, tests_of, event_of, step}
+use Rattle.desk_model.specs.Desk.{entry_length}
 use Rattle.desk_model.proofs.TableScales.{AreFine, balance-fine, turnovers-fine, both-fine}
 use Rattle.desk_model.proofs.TableScales.{account_balance-fine, account_turnovers-fine}
 use Rattle.desk_model.proofs.TableScales.{account_both-fine, pairs-fine, documents-fine, doc-fine}
@@ -37,6 +36,8 @@ use Rattle.desk_model.proofs.ErrorLemmas.{IfOk-last, IfErr-then}
 use Rattle.desk_model.proofs.RefusalScales.{Plainly, plan_write-plainly, plan_mark-plainly}
 use Rattle.desk_model.proofs.RefusalScales.{plan_manual-plainly, plan_activity-plainly}
 use Rattle.desk_model.proofs.RefusalScales.{plan_sweep-plainly, limits_of-plainly}
+use Rattle.desk_model.proofs.RefusalScales.{entry_limit-plainly}
+use Rattle.desk_model.specs.Journals.{entry_limit}
 use Rattle.desk_model.proofs.RuleScales.{document_from-plainly, control_fault-plainly}
 use Rattle.desk_model.proofs.RuleScales.{plan_post-plainly, plan_standing-plainly}
 use Rattle.desk_model.proofs.RuleScales.{plan_unpost-plainly}
@@ -45,24 +46,27 @@ use Rattle.desk_model.proofs.RuleScales.{plan_unpost-plainly}
 
 change_effect-fine : (tests : Tests) (setting : Setting) (state : State) (number : ℕ)
     (change : Change) → ((sight : Sight) (plan : Plan) (made : Result (Option Document) Refusal) →
-    Plainly (tests.limits sight plan made)) → ((sight : Sight) → Plainly (change.plan sight)) →
+    Plainly (tests.limits sight plan made)) → Plainly tests.entry →
+    ((sight : Sight) → Plainly (change.plan sight)) →
     AreFine (change_effect tests setting state number change)
 unfolding change_effect plan_effect work_effect
-change_effect-fine tests setting state number change of_limits of_plan = record {
+change_effect-fine tests setting state number change of_limits of_entry of_plan = record {
   answer =
       IfOk-last Answers (change.plan sight) _
       (λ plan. IfOk-last Answers (tests.limits sight plan (made plan)) _
-      (λ u. IfOk-last Answers (made plan) _
-      (λ after. IfOk-last Answers (none_or (fault plan after)) _ (λ held. tt))));
+      (λ u. IfOk-last Answers tests.entry _
+      (λ v. IfOk-last Answers (made plan) _
+      (λ after. IfOk-last Answers (none_or (fault plan after)) _ (λ held. tt)))));
   refusal =
       IfErr-then RefusalHasScales (change.plan sight) _ (of_plan sight)
       (λ plan. IfErr-then RefusalHasScales (tests.limits sight plan (made plan)) _
       (of_limits sight plan (made plan))
-      (λ u. IfErr-then RefusalHasScales (made plan) _
+      (λ u. IfErr-then RefusalHasScales tests.entry _ of_entry
+      (λ v. IfErr-then RefusalHasScales (made plan) _
       (document_from-plainly setting state.documents sight.before plan.doc plan.source)
       (λ after. IfErr-then RefusalHasScales (none_or (fault plan after)) _
       (control_fault-plainly setting plan (documents_with sight.before after state.documents)
-      sight.before after) (λ held. tt))));
+      sight.before after) (λ held. tt)))));
 }
   where
     sight : Sight
@@ -86,6 +90,7 @@ change-fine : (desk : Desk) (request : Request) (number : ℕ) (change : Change)
 change-fine desk request number change =
     change_effect-fine (tests_of desk (meaning_at desk request) request)
     desk.setting desk.serial number change (limits_of-plainly desk.serial)
+    (entry_limit-plainly desk.journal (entry_length desk request))
 
 -- the deed of each request
 deed-fine : (desk : Desk) (request : Request) →
@@ -102,7 +107,13 @@ deed-fine desk (Mark m) = change-fine desk (Mark m) _ _ (plan_mark-plainly m)
 deed-fine desk (Manual m) =
     change-fine desk (Manual m) _ _ (plan_manual-plainly desk.setting.config m)
 deed-fine desk (Activity m) = change-fine desk (Activity m) _ _ (plan_activity-plainly m)
-deed-fine desk (Close c) = record { answer = tt; refusal = tt }
+deed-fine desk (Close c) =
+    let entry = entry_limit desk.journal (entry_length desk (Close c)) in
+    record {
+      answer = IfOk-last (λ (e : Effect). AnswerHasScales e.answer) entry _ (λ u. tt);
+      refusal = IfErr-then RefusalHasScales entry _
+          (entry_limit-plainly desk.journal (entry_length desk (Close c))) (λ u. tt);
+    }
 deed-fine desk (Sweep s) = change-fine desk (Sweep s) _ _ plan_sweep-plainly
 deed-fine desk (Balance b) = balance-fine desk.setting.config desk.serial b
 deed-fine desk (Turnovers t) = turnovers-fine desk.setting.config desk.serial t

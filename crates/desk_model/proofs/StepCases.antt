@@ -6,7 +6,6 @@ use Rattle.std.proofs.lemmas.Cmp.{ranked}
 use Rattle.std.specs.Ordering.{match_ordering, nat_cmp}
 use Rattle.std.specs.declared.cmp.Ordering.{Ordering}
 use Rattle.std.specs.declared.cmp.Ordering.TheVariants.{Less, Equal, Greater}
-use Rattle.std.specs.Str.{bytes_eq}
 use Rattle.reg_base.specs.declared.right.Right.{Right}
 use Rattle.reg_base.specs.Results.{◌>>=◌, unless, none_or}
 use Rattle.desk_words.specs.declared.request.Request.{Request}
@@ -28,7 +27,7 @@ use Rattle.desk_model.specs.Stops.{Stop, refuses, or_stop}
 use Rattle.desk_model.specs.Clerks.{is_clerk, is_allowed}
 use Rattle.desk_model.specs.LastRequests.{is_same, last_of, with_last, same_number, number_after}
 use Rattle.desk_model.specs.LastRequests.{number_test}
-use Rattle.desk_model.specs.Plans.{Change, Question, Deed, Meaning, changes, closes, asks}
+use Rattle.desk_model.specs.Plans.{Change, Question, Deed, Meaning, changes, closes}
 use Rattle.desk_model.specs.Meanings.{asking}
 use Rattle.desk_model.specs.Questions.{question_doc, question_documents}
 use Rattle.desk_model.specs.RegisterQuestions.{question_balance, question_turnovers, question_both}
@@ -41,7 +40,8 @@ use Rattle.desk_model.specs.Serial.{sight_of, made_at, work_effect, plan_effect}
 use Rattle.desk_model.specs.Serial.{change_effect, answer_effect}
 use Rattle.desk_model.specs.Serial.{question_answer, question_effect, effect_of}
 use Rattle.desk_model.specs.Desk.{Event, meaning_at, command_at, tests_of, commits_of, event_of}
-use Rattle.desk_model.specs.Desk.{step}
+use Rattle.desk_model.specs.Desk.{entry_length, step}
+use Rattle.desk_model.specs.Journals.{entry_limit}
 use Rattle.desk_model.proofs.ErrorLemmas.{IfOk-last}
 
 -- ---- a number beside the last one
@@ -84,10 +84,11 @@ change_effect-acknowledges tests setting state number change =
     IfOk-last (Acknowledges state) (change.plan sight) _
     (λ plan. IfOk-last (Acknowledges state) (tests.limits sight plan
     (made_at setting state sight plan)) _
-    (λ u. IfOk-last (Acknowledges state) (made_at setting state sight plan) _
+    (λ u. IfOk-last (Acknowledges state) tests.entry _
+    (λ v. IfOk-last (Acknowledges state) (made_at setting state sight plan) _
     (λ after. IfOk-last (Acknowledges state) (none_or (control_fault setting plan
     (documents_with sight.before after state.documents) sight.before after)) _
-    (λ held. record { acknowledgement = _; answer_is = refl; lasts_are = refl }))))
+    (λ held. record { acknowledgement = _; answer_is = refl; lasts_are = refl })))))
 
 -- ---- the cases
 
@@ -215,9 +216,11 @@ step-comes desk (Mark m) = change-comes desk (Mark m) m.clerk _ m.no _ _
 step-comes desk (Manual m) = change-comes desk (Manual m) m.clerk _ m.no _ _
 step-comes desk (Activity m) = change-comes desk (Activity m) m.clerk _ m.no _ _
 step-comes desk (Close c) =
+    let entry = entry_limit desk.journal (entry_length desk (Close c)) in
     deed-comes desk (Close c) c.clerk _ c.no _ (closes c.date) _ _ _
-    (Ok (close_effect desk.serial c.date)) (λ command. refl) refl refl refl
-    (record { acknowledgement = _; answer_is = refl; lasts_are = refl })
+    (entry >>= λ _. Ok (close_effect desk.serial c.date)) (λ command. refl) refl refl refl
+    (IfOk-last (Acknowledges desk.serial) entry _
+    (λ u. record { acknowledgement = _; answer_is = refl; lasts_are = refl }))
 step-comes desk (Sweep s) = change-comes desk (Sweep s) s.clerk _ s.no _ _
 step-comes desk (Balance b) = inl (question-stays desk (Balance b) b.clerk
     (question_balance desk.setting.config b) _ _)

@@ -1,25 +1,13 @@
 -- Accepted tables are those that were asked for.
-use Rattle.std.proofs.Common.{◌≡◌, ℕ, ◌≤◌, Bool, true, false, nat_le, cond, Option, Some, None}
-use Rattle.std.proofs.Common.{unwrap_or, List, map, length, slice_get, Result}
+use Rattle.std.proofs.Common.{◌≡◌, Bool, true, false, cond, None}
+use Rattle.std.proofs.Common.{unwrap_or, List, Result}
 use Rattle.std.proofs.Common.{Ok, Err, refl, ap, ◌∙◌}
-use Rattle.std.proofs.Common.{sym, option_map, arith}
+use Rattle.std.proofs.Common.{sym}
 use Rattle.reg_base.specs.declared.cut.Cut.TheVariants.{Now}
 use Rattle.reg_base.specs.declared.line.Line.{Line}
-use Rattle.reg_base.specs.declared.fault.TableFault.{TableFault}
-use Rattle.reg_base.specs.declared.fault.TableFault.TheVariants.{BadRange, TooManyRows}
-use Rattle.reg_base.specs.declared.fault.TableFault.TheVariants.{UnknownField}
-use Rattle.reg_base.specs.declared.tables.Range.{Range}
 use Rattle.reg_base.specs.declared.tables.Method.TheVariants.{Movements}
-use Rattle.reg_base.specs.declared.tables.AskedList.{AskedList}
-use Rattle.reg_base.specs.Results.{◌>>=◌, unless, some_or, none_or}
-use Rattle.reg_base.specs.Records.{Booked, records_of, chosen_records}
-use Rattle.reg_base.specs.BookedEntries.{BookedEntry, entries_of}
-use Rattle.reg_base.specs.Turnovers.{limited_rows, table_of, row_limit}
-use Rattle.cfg_model.specs.declared.ledger.Chart.{Chart}
-use Rattle.cfg_model.specs.declared.register.Register.{Register}
-use Rattle.cfg_model.specs.Places.{register_place, ledger_place}
-use Rattle.cfg_model.specs.Asks.{wrong_name, filter_with, group_places}
-use Rattle.desk_words.specs.declared.tables.AskedRegister.{AskedRegister}
+use Rattle.reg_base.specs.Results.{◌>>=◌, unless}
+use Rattle.reg_base.specs.Turnovers.{limited_rows}
 use Rattle.desk_words.specs.declared.request.Balance.{Balance as BalanceRequest}
 use Rattle.desk_words.specs.declared.tables.Turnovers.{Turnovers as TurnoversRequest}
 use Rattle.desk_words.specs.declared.tables.Both.{Both as BothRequest}
@@ -38,19 +26,15 @@ use Rattle.desk_words.specs.declared.reply.Reply.TheVariants.{Done}
 use Rattle.desk_words.specs.declared.reply.Answer.{Answer}
 use Rattle.desk_words.specs.declared.reply.Answer.TheVariants as AnswerIs
 use Rattle.desk_words.specs.declared.reply.Refusal.{Refusal}
-use Rattle.desk_words.specs.declared.reply.Refusal.TheVariants.{UnknownClerk, NotAllowed, BadField}
-use Rattle.desk_words.specs.declared.reply.Field.TheVariants.{Register as RegisterField}
-use Rattle.desk_words.specs.declared.reply.Field.TheVariants.{Ledger as LedgerField}
-use Rattle.desk_words.specs.declared.reply.Field.TheVariants.{Account as AccountField}
+use Rattle.desk_words.specs.declared.reply.Refusal.TheVariants.{UnknownClerk, NotAllowed}
 use Rattle.desk_words.specs.Reading.{request}
-use Rattle.desk_model.specs.State.{Desk, State, Command}
-use Rattle.desk_model.specs.Plans.{Question, Meaning, about_register, about_ledger}
-use Rattle.desk_model.specs.Questions.{answering, or_refused, range_of, question_documents}
+use Rattle.desk_model.specs.State.{Desk, Command}
+use Rattle.desk_model.specs.Plans.{Question, Meaning}
+use Rattle.desk_model.specs.Questions.{answering, range_of, question_documents}
 use Rattle.desk_model.specs.Questions.{rows_between}
-use Rattle.desk_model.specs.RegisterQuestions.{question_about, asked_lists, named_table, scales_of}
+use Rattle.desk_model.specs.RegisterQuestions.{scales_of}
 use Rattle.desk_model.specs.RegisterQuestions.{question_balance, question_turnovers, question_both}
 use Rattle.desk_model.specs.RegisterQuestions.{balance_answer, turnovers_answer, both_answer}
-use Rattle.desk_model.specs.LedgerQuestions.{question_on, has_asked_account, asks_extras}
 use Rattle.desk_model.specs.LedgerQuestions.{question_account_balance, question_account_turnovers}
 use Rattle.desk_model.specs.LedgerQuestions.{question_account_both, question_pairs}
 use Rattle.desk_model.specs.LedgerQuestions.{account_balance_answer, account_turnovers_answer}
@@ -61,14 +45,14 @@ use Rattle.desk_model.specs.Serial.{effect_of}
 use Rattle.desk_model.specs.Clerks.{is_clerk, is_allowed, is_batch}
 use Rattle.desk_model.specs.Desk.{meaning_at, command_at, event_of, step}
 use Rattle.desk_model.specs.Answers.{refusal_event, event_of_reading, line_event, desk_after}
-use Rattle.desk_model.specs.Tables.{Asks, AsksLedger, IsShort, IsBalanceTable}
+use Rattle.desk_model.specs.Tables.{IsBalanceTable}
 use Rattle.desk_model.specs.Tables.{IsTurnoversTable, IsBothTable}
 use Rattle.desk_model.specs.Tables.{IsAccountBalanceTable, IsAccountTurnoversTable, IsAccountBothTable}
 use Rattle.desk_model.specs.Tables.{IsPairsTable}
 use Rattle.desk_model.specs.Tables.{IsDocumentsTable, IsTable}
 use Rattle.desk_model.specs.Laws.{TablesHold}
-use Rattle.desk_model.proofs.QuestionLemmas.{Shows, limited-shows, table-shows, AnswersAbout}
-use Rattle.desk_model.proofs.QuestionLemmas.{about-answers, AnswersOn, on-answers, not_refused}
+use Rattle.desk_model.proofs.QuestionLemmas.{limited-shows, table-shows}
+use Rattle.desk_model.proofs.QuestionLemmas.{about-answers, on-answers, not_refused}
 
 -- ---- each table
 

@@ -48,7 +48,7 @@ use Rattle.desk_model.specs.Desk.{step}
 use Rattle.desk_model.proofs.RowBooks.{shop, empty, tenth, eleventh, just, bound, each_line, once}
 use Rattle.desk_model.proofs.RowBooks.{filled, counted, post_goods, post_stock, stands, replies}
 use Rattle.desk_model.proofs.RowBooks.{after, twelfth, post_at, post, unpost, goods_at, fill_rules}
-use Rattle.desk_model.proofs.RowBooks.{issue_rules, in_main, bad_field}
+use Rattle.desk_model.proofs.RowBooks.{issue_rules, in_main, bad_field, row_step}
 
 -- ---- shortages
 
@@ -77,7 +77,7 @@ unfolding step effect_of change_effect plan_effect work_effect limits_of right_w
 second_line_misses = refl
 
 -- the desk is as it was
-nothing_changed : (step ten_in_stock (sale_of_four (codes "6.001"))).desk ≡ ten_in_stock
+nothing_changed : (row_step ten_in_stock (sale_of_four (codes "6.001"))).desk ≡ ten_in_stock
 unfolding step effect_of change_effect plan_effect work_effect limits_of right_word
     plan_post plan_content kind_of_request content_of cells_of is_code parse_num digits_from
     decimals_from last_digits_from units_of

@@ -1,7 +1,6 @@
 -- Worked rows of the desk machine: a first day, clerks and their numbers, and the serial machine.
 use Rattle.std.proofs.Common.{◌≡◌, ℕ, pos, true, false, Some, None, List, [], ◌∷◌, refl}
 use Rattle.std.proofs.Common.{ap, codes, map, Result, Ok, Err}
-use Rattle.std.specs.Str.{bytes_eq}
 use Rattle.reg_base.specs.declared.value.Value.TheVariants.{Code}
 use Rattle.reg_base.specs.declared.records.DocState.TheVariants.{Posted}
 use Rattle.reg_base.specs.declared.cut.Cut.TheVariants.{BeforeDate, ThroughDate}
@@ -20,7 +19,6 @@ use Rattle.desk_words.specs.declared.reply.Answer.TheVariants.{Balance as Balanc
 use Rattle.desk_words.specs.declared.reply.Field.TheVariants.{Register as RegisterField}
 use Rattle.desk_words.specs.declared.reply.Refusal.TheVariants.{UnknownClerk, NotAllowed, Stale}
 use Rattle.desk_words.specs.declared.reply.Refusal.TheVariants.{NumberReused}
-use Rattle.desk_words.specs.RequestTexts.{request_text}
 use Rattle.desk_model.specs.declared.last.Last.{Last}
 use Rattle.desk_model.specs.State.{Setting, Desk, first_state, first_desk}
 use Rattle.desk_model.specs.Stops.{Stop, refuses, repeats}
@@ -37,7 +35,7 @@ use Rattle.desk_model.specs.Serial.{bad_number, serial}
 use Rattle.desk_model.specs.Desk.{step}
 use Rattle.desk_model.proofs.RepeatLemmas.{step-same_number, same_number-same}
 use Rattle.desk_model.proofs.RowBooks.{shop, empty, morning, fifteenth, manual_at, nails_under}
-use Rattle.desk_model.proofs.RowBooks.{goods_at, stands, bad_field, replies, after}
+use Rattle.desk_model.proofs.RowBooks.{goods_at, stands, bad_field, replies, after, row_step}
 
 -- ---- a first day
 
@@ -172,7 +170,7 @@ after_nails : Desk
 after_nails = after empty (nails_under 1 ∷ [])
 
 -- what a step commits is the request under its number
-commits : (step after_nails (nails_under 2)).commits
+commits : (row_step after_nails (nails_under 2)).commits
     ≡ (record { number = 2; request = nails_under 2 } ∷ []) ∷ []
 unfolding step effect_of change_effect plan_effect work_effect limits_of right_word after_nails
     plan_manual given_sets given_set space_of given_record record_in_register record_set is_code

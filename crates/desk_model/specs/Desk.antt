@@ -1,5 +1,5 @@
 -- The desk machine: one request in, one reply out, the desk after.
-use Rattle.std.specs.Prelude.{ℕ, ◌+◌, nat_lt, if◌then◌else◌, List, [], ◌∷◌}
+use Rattle.std.specs.Prelude.{ℕ, ◌+◌, nat_lt, if◌then◌else◌, List, [], ◌∷◌, length}
 use Rattle.std.specs.Prelude.{Result, Ok, Err}
 use Rattle.desk_words.specs.declared.request.Request.{Request}
 use Rattle.desk_words.specs.declared.reply.Reply.{Reply}
@@ -12,18 +12,12 @@ use Rattle.desk_model.specs.Effects.{Effect, Tests}
 use Rattle.desk_model.specs.LastRequests.{number_test}
 use Rattle.desk_model.specs.Stops.{Stop, refuses, repeats}
 use Rattle.desk_model.specs.Limits.{greatest_number, limits_of}
+use Rattle.desk_model.specs.Journals.{commands_text, entry_limit, journal_with}
 use Rattle.desk_model.specs.Serial.{effect_of, state_kept}
 
 -- the number that is drawn next, and 0 where none is left
 abbrev pub next_number : State → ℕ
 next_number state = if nat_lt state.top greatest_number then state.top + 1 else 0
-
--- what a desk asks besides the request itself: its number, and its limits
-abbrev pub tests_of : Desk → Meaning → Request → Tests
-tests_of desk meaning request = record {
-  number = number_test desk.serial.lasts meaning.clerk meaning.number request;
-  limits = limits_of desk.serial;
-}
 
 -- what a request means at a desk
 abbrev pub meaning_at : Desk → Request → Meaning
@@ -34,6 +28,18 @@ abbrev pub command_at : Desk → Request → Command
 command_at desk request = record {
   number = if (meaning_at desk request).draws then next_number desk.serial else 0;
   request = request;
+}
+
+-- how many bytes the entry of a request has
+abbrev pub entry_length : Desk → Request → ℕ
+entry_length desk request = length (commands_text (command_at desk request ∷ []))
+
+-- what a desk asks besides the request itself: its number, its limits, and its journal's
+abbrev pub tests_of : Desk → Meaning → Request → Tests
+tests_of desk meaning request = record {
+  number = number_test desk.serial.lasts meaning.clerk meaning.number request;
+  limits = limits_of desk.serial;
+  entry = entry_limit desk.journal (entry_length desk request);
 }
 
 -- the effect of a request at a desk, or why it goes no further
@@ -58,13 +64,14 @@ abbrev pub reply_at : Stop → Reply
 reply_at (refuses refusal) = Refused refusal
 reply_at (repeats acknowledgement) = Done (Acknowledged acknowledgement)
 
--- an accepted request leaves its effect, and is its clerk's last where it has a number; any other
--- one leaves the desk as it is
+-- an accepted request leaves its effect, is its clerk's last where it has a number, and makes the
+-- journal longer by what it commits; any other one leaves the desk as it is
 abbrev pub event_of : Desk → Meaning → Command → Result Effect Stop → Event
 event_of desk meaning command (Ok effect) = record {
   reply = Done effect.answer;
   desk = record desk {
     serial = state_kept meaning command.request effect;
+    journal = journal_with desk.journal (commits_of meaning.deed command);
   };
   commits = commits_of meaning.deed command;
 }

@@ -29,17 +29,19 @@ pub record Effect : Type 0 where
   pub answer : Answer
 
 -- what a machine asks besides the request itself, and where: of the request's number, before what
--- it does is looked at; and of a plan, with the document that its records make or why they can't be
--- made, before that is answered
+-- it does is looked at; of a plan, with the document that its records make or why they can't be
+-- made, before that is answered; and then of the entry of its journal
 pub record Tests : Type 0 where
   pub number : Result (Unit {0}) Stop
   pub limits : Sight → Plan → Result (Option Document) Refusal → Result (Unit {0}) Refusal
+  pub entry : Result (Unit {0}) Refusal
 
 -- no tests
 abbrev pub no_tests : Tests
 no_tests = record {
   number = Ok tt;
   limits = λ sight plan made. Ok tt;
+  entry = Ok tt;
 }
 
 -- ---- effects of changes

@@ -8,6 +8,7 @@ pub mod Entries
 pub mod Fields
 pub mod GivenRecords
 pub mod LastRequests
+pub mod Journals
 pub mod Laws
 pub mod Limits
 pub mod Manuals

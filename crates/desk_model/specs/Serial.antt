@@ -51,12 +51,13 @@ work_effect setting state number sight plan after = do
     after = after;
   }))
 
--- the effect of a plan, or its first refusal: the machine's limits are asked, then whether its
--- records can be made, and then its controls
+-- the effect of a plan, or its first refusal: the machine's limits are asked, that of its journal
+-- behind the others, then whether its records can be made, and then its controls
 unfoldable pub plan_effect : Tests → Setting → State → ℕ → Sight → Plan → Result Effect Refusal
 plan_effect tests setting state number sight plan =
     let made = made_at setting state sight plan in
-    tests.limits sight plan made >>= λ _. made >>= work_effect setting state number sight plan
+    tests.limits sight plan made >>= λ _. tests.entry >>= λ _.
+    made >>= work_effect setting state number sight plan
 
 -- the effect of a change, or its first refusal
 unfoldable pub change_effect : Tests → Setting → State → ℕ → Change → Result Effect Refusal
@@ -102,7 +103,8 @@ question_effect state question = do
 abbrev pub deed_effect : Tests → Setting → State → ℕ → Deed → Result Effect Refusal
 deed_effect tests setting state number (changes change) =
     change_effect tests setting state number change
-deed_effect tests setting state number (closes date) = Ok (close_effect state date)
+deed_effect tests setting state number (closes date) =
+    tests.entry >>= λ _. Ok (close_effect state date)
 deed_effect tests setting state number (asks question) = question_effect state question
 
 -- the effect of a command, or why it goes no further: there is such a clerk, who may do this, and

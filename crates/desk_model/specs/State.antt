@@ -19,10 +19,11 @@ pub record State : Type 0 where
   pub closed : ℕ
   pub lasts : List Last
 
--- a desk: its setting, and the serial state that is committed
+-- a desk: its setting, the serial state that is committed, and how many bytes its journal has
 pub record Desk : Type 0 where
   pub setting : Setting
   pub serial : State
+  pub journal : ℕ
 
 -- a request with the number that was drawn for its document, or 0
 pub record Command : Type 0 where
@@ -38,9 +39,14 @@ first_state = record {
   lasts = [];
 }
 
--- a desk as it is opened
+-- how many bytes a journal without entries has
+abbrev pub first_journal : ℕ
+first_journal = 23
+
+-- a desk as it is opened over a journal without entries
 abbrev pub first_desk : Setting → Desk
 first_desk setting = record {
   setting = setting;
   serial = first_state;
+  journal = first_journal;
 }

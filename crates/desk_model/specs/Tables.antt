@@ -1,14 +1,13 @@
 -- What holds of an accepted table: it is the one that was asked for, over the records, the entries
 -- or the documents at its place.
 use Rattle.std.specs.Prelude.{◌≡◌, ℕ, ◌≤◌, ⊤, Bool, true, Option, Some, None, Ok, unwrap_or, List}
-use Rattle.std.specs.Prelude.{map, length, slice_get}
+use Rattle.std.specs.Prelude.{length, slice_get}
 use Rattle.reg_base.specs.declared.cut.Cut.TheVariants.{Now}
 use Rattle.reg_base.specs.declared.records.DocRow.{DocRow}
 use Rattle.reg_base.specs.declared.records.SumRow.{SumRow}
 use Rattle.reg_base.specs.declared.tables.AccountRow.{AccountRow}
 use Rattle.reg_base.specs.declared.tables.Method.TheVariants.{Movements}
 use Rattle.reg_base.specs.declared.tables.PairRow.{PairRow}
-use Rattle.reg_base.specs.declared.tables.Range.{Range}
 use Rattle.reg_base.specs.declared.tables.Row.{Row}
 use Rattle.reg_base.specs.declared.tables.AskedList.{AskedList}
 use Rattle.reg_base.specs.Records.{records_of}

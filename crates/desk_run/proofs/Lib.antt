@@ -2,6 +2,7 @@ pub mod PieceLemmas
 pub mod RunLemmas
 pub mod RuleLemmas
 pub mod RunEnds
+pub mod Opened
 pub mod CallEnds
 pub mod Completeness
 pub mod AnsweredLaws

@@ -85,3 +85,12 @@ rule_line kind place_digits reason_digits place reason p r =
     ∙ sym (append_assoc kind _ (10 ∷ [])
     ∙ ap (λ l. kind ++ 32 ∷ l)
     (append_assoc (number_text place) (32 ∷ number_text reason) (10 ∷ []))))
+
+-- the pieces of the line of a journal whose fault has a number
+pub journal_line : (front digits : List ℕ) (number : ℕ) → digits ≡ number_text number
+    → codes "regdesk: journal: " ++ (front ++ (digits ++ (codes "\n" ++ [])))
+    ≡ program_line (codes "journal: ") (front ++ number_text number)
+journal_line front digits number e =
+    ap (λ l. codes "regdesk: journal: " ++ l)
+    (ap (λ d. front ++ (d ++ (codes "\n" ++ []))) e
+    ∙ sym (append_assoc front (number_text number) (10 ∷ [])))

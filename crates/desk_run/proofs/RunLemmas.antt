@@ -9,6 +9,7 @@ use Rattle.reg_io.specs.LineStates.{IsFirstLine, HasNoWholeLine, IsBeyondRoom, E
 use Rattle.reg_base.specs.declared.line.Line.{Line}
 use Rattle.desk_model.specs.State.{Desk}
 use Rattle.desk_model.specs.Answers.{line_answer, line_desk, answers_to, desk_after}
+use Rattle.desk_history.specs.Histories.{entries_to, line_entries}
 use Rattle.desk_run.specs.Runs.{most_input_bytes, answerable_lines}
 use Rattle.desk_run.specs.AnsweredLines.{AreGiven, EndsLines}
 use borrow.Author.Tests.{leb-false}
@@ -30,6 +31,15 @@ pub desk_after-more : (desk : Desk) (lines : List Line) (line : Line)
 desk_after-more desk [] line = refl
 desk_after-more desk (first ∷ lines) line =
     desk_after-more (line_desk desk first) lines line
+
+-- the entries of lines and then one more
+pub entries_to-more : (desk : Desk) (lines : List Line) (line : Line)
+    → entries_to desk (lines ++ line ∷ [])
+    ≡ entries_to desk lines ++ line_entries (desk_after desk lines) line
+entries_to-more desk [] line = append-nil (line_entries desk line)
+entries_to-more desk (first ∷ lines) line =
+    ap (λ l. line_entries desk first ++ l) (entries_to-more (line_desk desk first) lines line)
+    ∙ sym (append_assoc (line_entries desk first) _ _)
 
 -- an answer that is a fault, and that one
 pub is_fault : {T E : Type 0} (result : Result T E) (fault : E)

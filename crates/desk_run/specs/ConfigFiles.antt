@@ -13,7 +13,8 @@ use Rattle.rule_lang.specs.Rules.{rules_of}
 use Rattle.desk_run.specs.declared.fault.Fault.{Fault}
 use Rattle.desk_run.specs.declared.fault.Fault.TheVariants.{Usage, Configuration, Rules, Memory}
 use Rattle.desk_run.specs.declared.fault.Fault.TheVariants.{Read, Write, File, FileTooLong}
-use Rattle.desk_run.specs.declared.fault.Fault.TheVariants.{InputTooLong}
+use Rattle.desk_run.specs.declared.fault.Fault.TheVariants.{InputTooLong, NotAJournal}
+use Rattle.desk_run.specs.declared.fault.Fault.TheVariants.{BadEntry, Entry, Disk}
 
 -- the bytes of a configuration, at the most
 abbrev pub most_config_bytes : ℕ
@@ -71,3 +72,7 @@ ReadsConfig name before now (Err Usage) = ⊥
 ReadsConfig name before now (Err Read) = ⊥
 ReadsConfig name before now (Err Write) = ⊥
 ReadsConfig name before now (Err InputTooLong) = ⊥
+ReadsConfig name before now (Err NotAJournal) = ⊥
+ReadsConfig name before now (Err (BadEntry place)) = ⊥
+ReadsConfig name before now (Err (Entry index)) = ⊥
+ReadsConfig name before now (Err Disk) = ⊥

@@ -10,14 +10,25 @@ use Rattle.rule_lang.specs.FaultTexts.{rule_fault_text}
 use Rattle.reg_io.specs.declared.shelf.ShelfFault.{ShelfFault}
 use Rattle.reg_io.specs.declared.shelf.ShelfFault.TheVariants.{Failed, TooLong}
 use Rattle.reg_io.specs.declared.shelf.ShelfFault.TheVariants.{Memory as ShelfMemory}
+use Rattle.reg_base.specs.Numbers.{number_text}
+use Rattle.post_journal.specs.declared.fault.OpenFault.{OpenFault}
+use Rattle.post_journal.specs.declared.fault.OpenFault.TheVariants.{DiskFault}
+use Rattle.post_journal.specs.declared.fault.OpenFault.TheVariants.{NotAJournal as OpenNotAJournal}
+use Rattle.post_journal.specs.declared.fault.OpenFault.TheVariants.{BadEntry as OpenBadEntry}
+use Rattle.post_journal.specs.declared.fault.OpenFault.TheVariants.{Memory as OpenMemory}
+use Rattle.desk_core.specs.declared.replay.ReplayFault.{ReplayFault}
+use Rattle.desk_core.specs.declared.replay.ReplayFault.TheVariants.{Unreplayable}
+use Rattle.desk_core.specs.declared.replay.ReplayFault.TheVariants.{Memory as ReplayMemory}
 use Rattle.desk_run.specs.declared.run.RunEnd.{RunEnd}
+use Rattle.desk_run.specs.declared.run.RunEnd.TheVariants.{Disk as RunDisk}
 use Rattle.desk_run.specs.declared.run.RunEnd.TheVariants.{Memory as RunMemory, Read as RunRead}
 use Rattle.desk_run.specs.declared.run.RunEnd.TheVariants.{Write as RunWrite}
 use Rattle.desk_run.specs.declared.run.RunEnd.TheVariants.{InputTooLong as RunTooLong}
 use Rattle.desk_run.specs.declared.fault.Fault.{Fault}
 use Rattle.desk_run.specs.declared.fault.Fault.TheVariants.{Usage, Configuration, Rules, Memory}
 use Rattle.desk_run.specs.declared.fault.Fault.TheVariants.{Read, Write, File, FileTooLong}
-use Rattle.desk_run.specs.declared.fault.Fault.TheVariants.{InputTooLong}
+use Rattle.desk_run.specs.declared.fault.Fault.TheVariants.{InputTooLong, NotAJournal}
+use Rattle.desk_run.specs.declared.fault.Fault.TheVariants.{BadEntry, Entry, Disk}
 
 -- the status of a fault
 abbrev pub status_of : Fault → ℕ
@@ -25,6 +36,10 @@ status_of Usage = 2
 status_of (Configuration fault) = 3
 status_of (Rules fault) = 3
 status_of Memory = 4
+status_of NotAJournal = 5
+status_of (BadEntry place) = 5
+status_of (Entry index) = 5
+status_of Disk = 6
 status_of Read = 7
 status_of Write = 8
 status_of File = 9
@@ -59,9 +74,22 @@ rules_fault (Wrong kind place why) = Rules (Wrong kind place why)
 -- the fault of a run that ended early
 abbrev pub run_fault : RunEnd → Fault
 run_fault RunMemory = Memory
+run_fault RunDisk = Disk
 run_fault RunRead = Read
 run_fault RunWrite = Write
 run_fault RunTooLong = InputTooLong
+
+-- the fault of a journal that was not opened
+abbrev pub open_fault : OpenFault → Fault
+open_fault OpenNotAJournal = NotAJournal
+open_fault (OpenBadEntry place) = BadEntry place
+open_fault DiskFault = Disk
+open_fault OpenMemory = Memory
+
+-- the fault of a desk that was not opened
+abbrev pub replay_fault : ReplayFault → Fault
+replay_fault (Unreplayable index) = Entry index
+replay_fault ReplayMemory = Memory
 
 -- the file that the words name
 abbrev pub file_word : List (List ℕ) → List ℕ
@@ -80,6 +108,12 @@ fault_line words (Configuration fault) =
     program_line (codes "configuration: ") (config_fault_text fault)
 fault_line words (Rules fault) = program_line (codes "rules: ") (rule_fault_text fault)
 fault_line words Memory = program_line [] (codes "memory")
+fault_line words NotAJournal = program_line (codes "journal: ") (codes "not a journal")
+fault_line words (BadEntry place) =
+    program_line (codes "journal: ") (codes "bad entry at " ++ number_text place)
+fault_line words (Entry index) =
+    program_line (codes "journal: ") (codes "entry " ++ number_text index)
+fault_line words Disk = program_line [] (codes "disk")
 fault_line words Read = program_line [] (codes "read")
 fault_line words Write = program_line [] (codes "write")
 fault_line words File = program_line (codes "file ") (file_word words)

@@ -1,5 +1,5 @@
 //! The line of a fault on the error output, written in pieces so that it takes no memory.
-ghost use Rattle.std.specs.Prelude.{◌≡◌, codes, map, string_bytes, OnOk, OnErr};
+ghost use Rattle.std.specs.Prelude.{◌≡◌, ◌++◌, codes, map, string_bytes, OnOk, OnErr};
 ghost use Rattle.std.specs.List.{flat_map};
 ghost use Rattle.std.specs.Io.KnownBytes.{Appends};
 ghost use Rattle.reg_io.specs.Counts.{AppendsPrefix, HasCause};
@@ -28,12 +28,26 @@ pub fn complain<E: Sink>(words: &[String], end: &Result<(), Fault>, err: &mut E)
         Fault::Configuration { fault } => write_config_fault(err, fault),
         Fault::Rules { fault } => write_rules_fault(err, fault),
         Fault::Memory => write_line(err, &["regdesk: memory\n"]),
+        Fault::NotAJournal => write_line(err, &["regdesk: journal: not a journal\n"]),
+        Fault::BadEntry { place } => write_number(err, "bad entry at ", *place),
+        Fault::Entry { index } => write_number(err, "entry ", u64::from(*index)),
+        Fault::Disk => write_line(err, &["regdesk: disk\n"]),
         Fault::Read => write_line(err, &["regdesk: read\n"]),
         Fault::Write => write_line(err, &["regdesk: write\n"]),
         Fault::File => write_line(err, &["regdesk: file ", file_word(words), "\n"]),
         Fault::FileTooLong => write_line(err, &["regdesk: too long\n"]),
         Fault::InputTooLong => write_line(err, &["regdesk: too long\n"]),
     }
+}
+
+// Writes the line of a journal whose fault has a number.
+fn write_number<E: Sink>(err: &mut E, front: &str, number: u64)
+    ensures { WritesLine (program_line (codes "journal: ") (front.now ++ number_text number))
+        (E.taken err.old) (E.taken err.new) (E.write_faults err.old) (E.write_faults err.new) }
+{
+    let mut buffer = Buffer::new();
+    let number = digits(&mut buffer, number);
+    write_line(err, &["regdesk: journal: ", front, number, "\n"]);
 }
 
 // Writes the line of a configuration that is refused.

@@ -1,10 +1,13 @@
 //! Why a top call did not end well: its status and its line on the error output.
 ghost use Rattle.std.specs.Prelude.{◌≡◌};
 ghost use Rattle.desk_run.specs.Statuses.{status_of, end_status, file_fault, config_fault};
+ghost use Rattle.desk_run.specs.Statuses.{open_fault, replay_fault};
 ghost use Rattle.desk_run.specs.Statuses.{rules_fault, run_fault};
 
 use crate::run::RunEnd;
 use cfg_model::CfgFault;
+use desk_core::ReplayFault;
+use post_journal::OpenFault;
 use reg_io::ShelfFault;
 use rule_lang::RuleFault;
 
@@ -19,6 +22,14 @@ pub enum Fault {
     Rules { fault: RuleFault },
     /// Memory was refused.
     Memory,
+    /// The file of the journal is no journal.
+    NotAJournal,
+    /// The journal has at this place an entry that is not whole.
+    BadEntry { place: u64 },
+    /// The journal's entry of this index, from 1, can't be replayed.
+    Entry { index: u32 },
+    /// A call of the disk failed.
+    Disk,
     /// A read of the input failed.
     Read,
     /// A write to the output failed.
@@ -41,6 +52,10 @@ impl Fault {
             Fault::Configuration { .. } => 3,
             Fault::Rules { .. } => 3,
             Fault::Memory => 4,
+            Fault::NotAJournal => 5,
+            Fault::BadEntry { .. } => 5,
+            Fault::Entry { .. } => 5,
+            Fault::Disk => 6,
             Fault::Read => 7,
             Fault::Write => 8,
             Fault::File => 9,
@@ -100,9 +115,34 @@ impl From<RunEnd> for Fault {
     fn from(end: RunEnd) -> Fault {
         match end {
             RunEnd::Memory => Fault::Memory,
+            RunEnd::Disk => Fault::Disk,
             RunEnd::Read => Fault::Read,
             RunEnd::Write => Fault::Write,
             RunEnd::InputTooLong => Fault::InputTooLong,
+        }
+    }
+}
+
+impl From<OpenFault> for Fault {
+    ghost from_gives = { λ fault e. e ≡ open_fault fault };
+
+    fn from(fault: OpenFault) -> Fault {
+        match fault {
+            OpenFault::NotAJournal => Fault::NotAJournal,
+            OpenFault::BadEntry { place } => Fault::BadEntry { place },
+            OpenFault::DiskFault => Fault::Disk,
+            OpenFault::Memory => Fault::Memory,
+        }
+    }
+}
+
+impl From<ReplayFault> for Fault {
+    ghost from_gives = { λ fault e. e ≡ replay_fault fault };
+
+    fn from(fault: ReplayFault) -> Fault {
+        match fault {
+            ReplayFault::Unreplayable { index } => Fault::Entry { index },
+            ReplayFault::Memory => Fault::Memory,
         }
     }
 }

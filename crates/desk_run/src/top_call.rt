@@ -3,17 +3,17 @@ ghost use Rattle.std.specs.Prelude.{◌≡◌, ◌↔◌, map, string_bytes, IfO
 ghost use Rattle.desk_model.specs.State.{Setting};
 ghost use Rattle.desk_core.specs.Invariants.{AreFewStatements};
 ghost use Rattle.cfg_model.specs.Limits.{IsWithinLimits};
-ghost use Rattle.desk_run.specs.Inputs.{desk_under};
-ghost use Rattle.desk_run.specs.Ends.{KeepsLaws, AskNothing, Ends, Finishes, HoldsConfig};
+ghost use Rattle.desk_run.specs.Ends.{AskNothing, Ends, Finishes, HoldsConfig, KeepsLaws};
+ghost use Rattle.desk_run.specs.Ends.{LeavesDisk, RunsDesk, RunsFile, RunsWhole};
 ghost use Rattle.desk_run.specs.ConfigFiles.{ReadsConfig, shelf_of};
-ghost use Rattle.desk_run.specs.Ends.{RunsFile, RunsWith};
 ghost use Rattle.desk_run.specs.Runs.{streams_of};
 
 use crate::complaint::complain;
 use crate::fault::{Fault, end_status};
-use crate::run::{RunEnd, run_lines};
+use crate::run::run_lines;
 use cfg_model::Config;
 use desk_core::Desk;
+use post_journal::Journal;
 use reg_io::{Disk, Shelf, Sink, Source};
 use rule_lang::{Rules, places_are_resolved};
 use std::alloc::Global;
@@ -37,7 +37,7 @@ pub fn desk_main<R: Threads + Sync, F: Shelf, D: Disk + Send, S: Source, O: Sink
     alloc: Global,
     words: &[String],
     shelf: &mut F,
-    disk: D,
+    mut disk: D,
     input: &mut S,
     out: &mut O,
     err: &mut E,
@@ -47,12 +47,20 @@ pub fn desk_main<R: Threads + Sync, F: Shelf, D: Disk + Send, S: Source, O: Sink
         (shelf_of F.files F.faults shelf.new)
         (streams_of S.left S.read_faults O.taken O.write_faults input.old out.old)
         (streams_of S.left S.read_faults O.taken O.write_faults input.new out.new)
+        D.state D.faults disk result.disk
         (E.taken err.old) (E.taken err.new) (E.write_faults err.old) (E.write_faults err.new)
         result.status }
 
     // Wrong words alone end with 2.
     ensures words { (result.status ≡ 2) ↔ AskNothing (map (λ w. string_bytes w) words.now) }
-    ensures disk { result.disk ≡ disk }
+
+    // Where nothing stands in the way, the whole input is answered.
+    ensures whole { RunsWhole (map (λ w. string_bytes w) words.now)
+        (shelf_of F.files F.faults shelf.old)
+        (shelf_of F.files F.faults shelf.new)
+        (streams_of S.left S.read_faults O.taken O.write_faults input.old out.old)
+        (streams_of S.left S.read_faults O.taken O.write_faults input.new out.new)
+        (D.state disk) (D.faults disk) (D.faults result.disk) result.status }
 
     // Of the lines that were answered under the file's configuration: each accepted balance is the
     // sum over the records at its place; the numbers of each clerk's requests rise; a repeated
@@ -60,12 +68,12 @@ pub fn desk_main<R: Threads + Sync, F: Shelf, D: Disk + Send, S: Source, O: Sink
     ensures laws { (setting : Setting)
         → HoldsConfig (map (λ w. string_bytes w) words.now)
         (shelf_of F.files F.faults shelf.old) setting
-        → KeepsLaws (desk_under setting)
+        → KeepsLaws setting (D.state disk).content
         (streams_of S.left S.read_faults O.taken O.write_faults input.old out.old)
         (streams_of S.left S.read_faults O.taken O.write_faults input.new out.new) }
 {
     let _ = rt;
-    let end = run_words(alloc, words, shelf, input, out);
+    let end = run_words(alloc, words, shelf, &mut disk, input, out);
     complain(words, &end, err);
     Finish {
         status: end_status(&end),
@@ -73,10 +81,11 @@ pub fn desk_main<R: Threads + Sync, F: Shelf, D: Disk + Send, S: Source, O: Sink
     }
 }
 
-fn run_words<F: Shelf, S: Source, O: Sink>(
+fn run_words<F: Shelf, D: Disk, S: Source, O: Sink>(
     alloc: Global,
     words: &[String],
     shelf: &mut F,
+    disk: &mut D,
     input: &mut S,
     out: &mut O,
 ) -> Result<(), Fault>
@@ -84,19 +93,24 @@ fn run_words<F: Shelf, S: Source, O: Sink>(
         (shelf_of F.files F.faults shelf.old)
         (shelf_of F.files F.faults shelf.new)
         (streams_of S.left S.read_faults O.taken O.write_faults input.old out.old)
-        (streams_of S.left S.read_faults O.taken O.write_faults input.new out.new) result }
+        (streams_of S.left S.read_faults O.taken O.write_faults input.new out.new)
+        (D.state disk.old) (D.state disk.new) (D.faults disk.old) (D.faults disk.new) result }
+    ensures untouched { LeavesDisk result disk.old disk.new }
 {
     match words {
-        [run, name] if run.as_str() == "run" => run_file(alloc, name.as_str(), shelf, input, out),
+        [run, name] if run.as_str() == "run" => {
+            run_file(alloc, name.as_str(), shelf, disk, input, out)
+        }
         _ => Err(Fault::Usage),
     }
 }
 
 // Runs the lines of the input under the configuration of this name.
-fn run_file<F: Shelf, S: Source, O: Sink>(
+fn run_file<F: Shelf, D: Disk, S: Source, O: Sink>(
     alloc: Global,
     name: &str,
     shelf: &mut F,
+    disk: &mut D,
     input: &mut S,
     out: &mut O,
 ) -> Result<(), Fault>
@@ -104,29 +118,35 @@ fn run_file<F: Shelf, S: Source, O: Sink>(
         (shelf_of F.files F.faults shelf.old)
         (shelf_of F.files F.faults shelf.new)
         (streams_of S.left S.read_faults O.taken O.write_faults input.old out.old)
-        (streams_of S.left S.read_faults O.taken O.write_faults input.new out.new) result }
+        (streams_of S.left S.read_faults O.taken O.write_faults input.new out.new)
+        (D.state disk.old) (D.state disk.new) (D.faults disk.old) (D.faults disk.new) result }
+    ensures untouched { LeavesDisk result disk.old disk.new }
 {
     let (config, rules) = read_config(alloc, name, shelf)?;
-    run_config(alloc, config, rules, input, out)?;
+    run_config(alloc, config, rules, disk, input, out)?;
     Ok(())
 }
 
-// Runs the lines of the input at a desk that is opened with the configuration and its rules.
-fn run_config<S: Source, O: Sink>(
+// Runs the lines of the input at the desk that the journal's entries open.
+fn run_config<D: Disk, S: Source, O: Sink>(
     alloc: Global,
     config: Config,
     rules: Rules,
+    disk: &mut D,
     input: &mut S,
     out: &mut O,
-) -> Result<(), RunEnd>
+) -> Result<(), Fault>
     requires limits { IsWithinLimits config }
     requires statements { AreFewStatements rules }
-    ensures runs { RunsWith (record { config = config; rules = rules })
+    ensures runs { RunsDesk (record { config = config; rules = rules })
         (streams_of S.left S.read_faults O.taken O.write_faults input.old out.old)
-        (streams_of S.left S.read_faults O.taken O.write_faults input.new out.new) result }
+        (streams_of S.left S.read_faults O.taken O.write_faults input.new out.new)
+        (D.state disk.old) (D.state disk.new) (D.faults disk.old) (D.faults disk.new) result }
 {
-    let mut desk = Desk::open(alloc, config, rules)?;
-    run_lines(alloc, &mut desk, input, out)
+    let (mut journal, entries) = Journal::open(alloc, disk)?;
+    let mut desk = Desk::open(alloc, config, rules, entries.as_slice())?;
+    run_lines(alloc, &mut desk, &mut journal, disk, input, out)?;
+    Ok(())
 }
 
 // The configuration of this name, with its rules.

@@ -1,4 +1,4 @@
-//! Tests of the run that only code can make: calls that fail, inputs in pieces, and a step alone.
+//! Tests of the run that only code can make: calls that fail, and inputs in pieces.
 //! What lines and files are answered is tested with the program, by the rows of `examples/rows`.
 //!
 //! Means: nothing; it has tests alone, apart from the crates that they try, since the tests of a
@@ -15,5 +15,3 @@
 mod failing_tests;
 #[cfg(test)]
 mod shop;
-#[cfg(test)]
-mod step_tests;

@@ -20,6 +20,7 @@ use Rattle.desk_words.specs.declared.reply.Field.TheVariants.{Space, Register, L
 use Rattle.desk_words.specs.declared.reply.Field.TheVariants.{Kind, Amount, Account, Named}
 use Rattle.desk_words.specs.declared.reply.Limit.{Limit}
 use Rattle.desk_words.specs.declared.reply.Limit.TheVariants.{Documents, Numbers, Records, Lines}
+use Rattle.desk_words.specs.declared.reply.Limit.TheVariants.{Journal}
 use Rattle.reg_base.specs.declared.fault.PostFault.{PostFault}
 use Rattle.reg_base.specs.declared.fault.PostFault.TheVariants.{Broken, Shortage, Overflow, Entry}
 use Rattle.reg_base.specs.declared.fault.PostFault.TheVariants.{TooManyRecords, Negative}
@@ -59,6 +60,7 @@ limit_name Documents = codes "documents"
 limit_name Numbers = codes "numbers"
 limit_name Records = codes "records"
 limit_name Lines = codes "lines"
+limit_name Journal = codes "journal"
 
 -- the number of a fault of a line; want of memory is none and is never told
 abbrev pub word_fault_number : WordFault → ℕ

@@ -203,6 +203,8 @@ pub enum Limit {
     Records,
     /// Lines of a document.
     Lines,
+    /// Bytes of the journal, or of an entry of it.
+    Journal,
 }
 
 impl Reply {
@@ -293,6 +295,7 @@ impl Limit {
             Limit::Numbers => "numbers",
             Limit::Records => "records",
             Limit::Lines => "lines",
+            Limit::Journal => "journal",
         }
     }
 }

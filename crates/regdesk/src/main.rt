@@ -12,7 +12,7 @@
 mod program;
 
 use desk_run::desk_main;
-use reg_io::{Folder, MemoryDisk, ReaderSource, WriterSink};
+use reg_io::{Folder, JournalFile, ReaderSource, WriterSink};
 use std::process::ExitCode;
 
 fn main(rt: HostRuntime) -> ExitCode {
@@ -27,7 +27,7 @@ fn main(rt: HostRuntime) -> ExitCode {
         alloc,
         words.as_slice(),
         &mut Folder::new(&rt),
-        MemoryDisk::new(alloc),
+        JournalFile::new(&rt, "regdesk.journal"),
         &mut ReaderSource::new(rt.stdin()),
         &mut WriterSink::new(rt.stdout()),
         &mut err,

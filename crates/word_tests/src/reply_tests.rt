@@ -307,7 +307,7 @@ const FIELDS: [(Field, &str); 7] = [
 ];
 
 // Limits, each with the members that are printed where one more would pass it.
-const LIMITS: [(Limit, u64, &str); 4] = [
+const LIMITS: [(Limit, u64, &str); 5] = [
     (
         Limit::Documents,
         500_000,
@@ -327,6 +327,11 @@ const LIMITS: [(Limit, u64, &str); 4] = [
         Limit::Lines,
         1_000,
         "\"code\":14,\"name\":\"Limit\",\"number\":1000,\"which\":\"lines\"",
+    ),
+    (
+        Limit::Journal,
+        1_073_741_824,
+        "\"code\":14,\"name\":\"Limit\",\"number\":1073741824,\"which\":\"journal\"",
     ),
 ];
 

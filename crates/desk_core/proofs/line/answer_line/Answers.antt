@@ -1,14 +1,18 @@
-use Rattle.std.proofs.Common.{◌∙◌, sym}
-use Rattle.desk_core.proofs.LineLemmas.{AnswersLine-blank, AnswersLine-event}
+use Rattle.std.proofs.Common.{sym, ◌∙◌}
+use Rattle.desk_core.proofs.LineLemmas.{LineDone-blank, line-failed, line-done}
 use Rattle.desk_core.proofs.line.answer_line.Goals as goal
 
-pub returns-then-is_blank-clause-ok : goal.returns-then-is_blank-clause-ok
-returns-then-is_blank-clause-ok c =
-    AnswersLine-blank c.args.desk.now.desk c.args.line.now
-    (sym c.is_blank.ensures ∙ c.if-is_blank.true)
+pub returns-then-is_blank-clause-ends : goal.returns-then-is_blank-clause-ends
+returns-then-is_blank-clause-ends g c = LineDone-blank c.args.desk.now c.args.line.now
+    c.args.journal.now _ (sym c.is_blank.ensures ∙ c.if-is_blank.true) c.requires.ready
 
-pub returns-clause-ok : goal.returns-clause-ok
-returns-clause-ok c =
-    AnswersLine-event c.args.desk.now.desk c.args.line.now c.in_ok-text.text
-    c.answer_text.new.desk.desk
-    (sym c.is_blank.ensures ∙ c.if-is_blank.false) c.in_ok-text.ensures.ok
+pub returns-in-Err-clause-ends : goal.returns-in-Err-clause-ends
+returns-in-Err-clause-ends g c =
+    line-failed c.args.desk.now c.answer_text.new.desk c.args.line.now _ _ _ _ c.in-Err.end
+    (sym c.is_blank.ensures ∙ c.if-is_blank.false)
+    (sym c.is_stopped.ensures ∙ c.if-is_stopped.false) c.in-Err.ensures.ends
+
+pub returns-in-Ok-clause-ends : goal.returns-in-Ok-clause-ends
+returns-in-Ok-clause-ends g c =
+    line-done c.args.desk.now c.answer_text.new.desk c.args.line.now c.in-Ok.text _ _
+    (sym c.is_blank.ensures ∙ c.if-is_blank.false) c.in-Ok.ensures.ends

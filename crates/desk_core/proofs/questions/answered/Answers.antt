@@ -1,9 +1,7 @@
-use Rattle.std.proofs.Common.{Err, IfOk, ap, ◌∙◌, sym, subst}
+use Rattle.std.proofs.Common.{Err, IfOk, ap, ◌∙◌, subst}
 use Rattle.reg_base.specs.Tries.{Tries}
 use Rattle.desk_model.specs.Questions.{IsAnswer}
-use Rattle.desk_model.specs.Stops.{or_stop}
-use Rattle.desk_model.specs.Serial.{question_answer, question_effect}
-use Rattle.desk_core.specs.Outcomes.{Comes}
+use Rattle.desk_model.specs.Serial.{question_answer}
 use Rattle.desk_core.proofs.QuestionLemmas.{answered-comes, refused-comes}
 use Rattle.desk_core.proofs.questions.answered.Goals as goal
 
@@ -15,8 +13,6 @@ returns-in-Ok c = λ desk question tries.
 
 pub returns-in-Err-Refused : goal.returns-in-Err-Refused
 returns-in-Err-Refused c = λ desk question tries.
-    subst (Comes desk (or_stop (question_effect desk.serial question)))
-    (sym c.refusal_outcome.ensures)
-    (refused-comes desk question c.in-Err-Refused.refusal
+    refused-comes desk question c.in-Err-Refused.refusal
     (subst (λ r. Tries r (question_answer desk.serial.documents question))
-    (c.in-Err-Refused.is ∙ ap Err c.in-Err-Refused.field-0-is) tries))
+    (c.in-Err-Refused.is ∙ ap Err c.in-Err-Refused.field-0-is) tries)

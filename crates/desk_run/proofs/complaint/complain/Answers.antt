@@ -13,6 +13,20 @@ returns-in-Rules g c = rw c.in-Err.is (rw c.in-Rules.is c.write_rules_fault.ensu
 pub returns-in-Memory : goal.returns-in-Memory
 returns-in-Memory g c = rw c.in-Err.is (rw c.in-Memory.is c.write_line-in-Memory.ensures)
 
+pub returns-in-NotAJournal : goal.returns-in-NotAJournal
+returns-in-NotAJournal g c =
+    rw c.in-Err.is (rw c.in-NotAJournal.is c.write_line-in-NotAJournal.ensures)
+
+pub returns-in-BadEntry : goal.returns-in-BadEntry
+returns-in-BadEntry g c = rw c.in-Err.is (rw c.in-BadEntry.is c.write_number.ensures)
+
+pub returns-in-Entry : goal.returns-in-Entry
+returns-in-Entry g c = rw c.in-Err.is (rw c.in-Entry.is
+    (rw c.from.ensures at c.write_number-in-Entry.ensures))
+
+pub returns-in-Disk : goal.returns-in-Disk
+returns-in-Disk g c = rw c.in-Err.is (rw c.in-Disk.is c.write_line-in-Disk.ensures)
+
 pub returns-in-Read : goal.returns-in-Read
 returns-in-Read g c = rw c.in-Err.is (rw c.in-Read.is c.write_line-in-Read.ensures)
 

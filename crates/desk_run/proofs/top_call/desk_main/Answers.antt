@@ -10,8 +10,8 @@ returns-clause-ends g c = record {
   end = c.run_words-end.result;
   status_is = c.end_status.ensures;
   ends = c.run_words-end.ensures.ends;
+  untouched = c.run_words-end.ensures.untouched;
   complains = c.complain.ensures;
-  succeeds = call_succeeds _ _ _ _ _ _ _ c.end_status.ensures c.run_words-end.ensures.ends;
 }
 
 pub returns-clause-words : goal.returns-clause-words
@@ -22,6 +22,20 @@ returns-clause-words g c = status-usage _
     c.args.input.now c.args.out.now)
     (streams_of g.S.Device.left g.S.Device.read_faults g.O.Device.taken g.O.Device.write_faults
     c.run_words-end.new.input c.run_words-end.new.out)
+    (g.D.Disk.state c.args.disk) (g.D.Disk.state c.run_words-end.new.disk)
+    (g.D.Disk.faults c.args.disk) (g.D.Disk.faults c.run_words-end.new.disk)
+    c.run_words-end.result _ c.end_status.ensures c.run_words-end.ensures.ends
+
+pub returns-clause-whole : goal.returns-clause-whole
+returns-clause-whole g c = call_succeeds _
+    (shelf_of g.F.Shelf.files g.F.Shelf.faults c.args.shelf.now)
+    (shelf_of g.F.Shelf.files g.F.Shelf.faults c.run_words-end.new.shelf)
+    (streams_of g.S.Device.left g.S.Device.read_faults g.O.Device.taken g.O.Device.write_faults
+    c.args.input.now c.args.out.now)
+    (streams_of g.S.Device.left g.S.Device.read_faults g.O.Device.taken g.O.Device.write_faults
+    c.run_words-end.new.input c.run_words-end.new.out)
+    (g.D.Disk.state c.args.disk) (g.D.Disk.state c.run_words-end.new.disk)
+    (g.D.Disk.faults c.args.disk) (g.D.Disk.faults c.run_words-end.new.disk)
     c.run_words-end.result _ c.end_status.ensures c.run_words-end.ensures.ends
 
 pub returns-clause-laws : goal.returns-clause-laws
@@ -32,4 +46,6 @@ returns-clause-laws g c = call_laws _
     c.args.input.now c.args.out.now)
     (streams_of g.S.Device.left g.S.Device.read_faults g.O.Device.taken g.O.Device.write_faults
     c.run_words-end.new.input c.run_words-end.new.out)
+    (g.D.Disk.state c.args.disk) (g.D.Disk.state c.run_words-end.new.disk)
+    (g.D.Disk.faults c.args.disk) (g.D.Disk.faults c.run_words-end.new.disk)
     c.run_words-end.result c.run_words-end.ensures.ends

@@ -1,11 +1,9 @@
-use Rattle.std.proofs.Common.{◌≡◌, Option, Some, None, Ok, List, ap, subst, sym, ◌∙◌}
+use Rattle.std.proofs.Common.{◌≡◌, Some, Ok, List, ap, subst, sym, ◌∙◌}
 use Rattle.reg_base.specs.declared.records.Document.{Document}
 use Rattle.reg_base.specs.Documents.{with_document}
-use Rattle.cfg_model.specs.declared.config.Config.{Config}
-use Rattle.desk_words.specs.declared.reply.Refusal.{Refusal}
 use Rattle.desk_model.specs.State.{Desk}
 use Rattle.desk_model.specs.Stops.{or_stop}
-use Rattle.desk_model.specs.Controls.{controls_of, first_control}
+use Rattle.desk_model.specs.Controls.{first_control}
 use Rattle.desk_plans.specs.Sights.{sight_view}
 use Rattle.desk_core.specs.declared.outcome.Outcome.{Outcome}
 use Rattle.desk_core.specs.DeskViews.{DeskView}
@@ -16,7 +14,8 @@ use Rattle.desk_core.proofs.desk.Desk.controlled_outcome.Goals as goal
 
 pub failed_control-requires-clause-before : goal.failed_control-requires-clause-before
 failed_control-requires-clause-before c = λ d seen.
-    seen-short c.args.self.now.desk.serial (sight_view c.args.sight.now) c.self.inside.top
+    seen-short c.args.way.now c.args.self.now.desk.serial (sight_view c.args.sight.now)
+    c.self.inside.top
     c.self.inside.records
     (subst (λ (ds : List Document). AreKept ds c.self.inside.top c.self.inside.records)
     (ap (λ (v : DeskView). v.desk.serial.documents) c.self.view_is) c.self.invariant.kept)
@@ -34,9 +33,11 @@ returns-in-Some c = λ plan own suits put controls passed.
     let failed = sym (c.in_ok-failure.ensures
     ∙ (λ i. first_control (config i) (controls i) (with_document document (documents i))
     sight.before (Some document))) ∙ c.in-Some.is in
-    subst (λ (o : Outcome). Comes desk (or_stop
-    (made_effect desk sight plan (Ok (Some document)))) o) (sym c.refusal_outcome.ensures)
-    (control-comes desk sight plan document c.requires.seen suits own c.in-Some.refusal passed
+    subst (λ (o : Outcome). Comes c.args.way.now desk (or_stop
+    (made_effect c.args.way.now desk sight plan (Ok (Some document)))) o) (sym
+    c.refusal_outcome.ensures)
+    (control-comes c.args.way.now desk sight plan document c.requires.seen suits own
+    c.in-Some.refusal passed
     failed)
 
 pub returns-in-None : goal.returns-in-None
@@ -54,9 +55,11 @@ returns-in-None c = λ plan own suits put controls passed.
     let held = sym (c.in_ok-failure.ensures
     ∙ (λ i. first_control (config i) (controls i) (with_document document (documents i))
     sight.before (Some document))) ∙ c.in-None.is in
-    subst (λ (o : Outcome). Comes desk (or_stop
-    (made_effect desk sight plan (Ok (Some document)))) o) (sym c.document_outcome.ensures)
-    (put-comes desk sight plan document c.requires.seen suits own c.self.inside.records
+    subst (λ (o : Outcome). Comes c.args.way.now desk (or_stop
+    (made_effect c.args.way.now desk sight plan (Ok (Some document)))) o) (sym
+    c.document_outcome.ensures)
+    (put-comes c.args.way.now desk sight plan document c.requires.seen suits own
+    c.self.inside.records
     (subst (λ n. AreKept desk.serial.documents n c.self.inside.records)
     (ap (λ (v : DeskView). v.desk.serial.top) c.self.view_is) kept)
     c.requires.bounds put passed held)

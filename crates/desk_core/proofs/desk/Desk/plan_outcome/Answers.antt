@@ -1,19 +1,16 @@
 use Rattle.std.proofs.Common.{◌≡◌, ℕ, Option, Some, None, Ok, Err, IfOk, Result, List, refl, ap}
 use Rattle.std.proofs.Common.{◌≤◌, subst, sym, ◌∙◌}
-use Rattle.std.specs.Option.{option_copied}
 use Rattle.reg_base.specs.declared.records.Document.{Document}
 use Rattle.reg_base.specs.Records.{Booked, records_of}
 use Rattle.post_rules.specs.Sheets.{IsSheet}
 use Rattle.desk_words.specs.declared.reply.Refusal.{Refusal}
-use Rattle.desk_model.specs.State.{Setting, Desk}
+use Rattle.desk_model.specs.State.{Desk}
 use Rattle.desk_model.specs.Effects.{Effect}
 use Rattle.desk_model.specs.Stops.{or_stop}
-use Rattle.desk_model.specs.Limits.{records_in}
 use Rattle.desk_model.specs.DocumentSets.{document_from}
 use Rattle.desk_model.specs.Serial.{made_at}
 use Rattle.desk_plans.specs.Sights.{sight_view}
 use Rattle.reg_base.specs.Tries.{Tries}
-use Rattle.desk_core.specs.declared.outcome.Outcome.{Outcome}
 use Rattle.desk_core.specs.DeskViews.{DeskView}
 use Rattle.desk_core.specs.Invariants.{AreKept}
 use Rattle.desk_core.specs.Outcomes.{Comes, made_effect}
@@ -24,7 +21,8 @@ use Rattle.desk_core.proofs.desk.Desk.plan_outcome.Goals as goal
 
 pub document_from-requires-clause-before : goal.document_from-requires-clause-before
 document_from-requires-clause-before c = λ d seen.
-    seen-short c.args.self.now.desk.serial (sight_view c.args.sight.now) c.self.inside.top
+    seen-short c.args.way.now c.args.self.now.desk.serial (sight_view c.args.sight.now)
+    c.self.inside.top
     c.self.inside.records
     (subst (λ (ds : List Document). AreKept ds c.self.inside.top c.self.inside.records)
     (ap (λ (v : DeskView). v.desk.serial.documents) c.self.view_is) c.self.invariant.kept)
@@ -36,10 +34,10 @@ document_from-requires-clause-sheets c = λ register.
     subst (λ (ds : List Document). IsSheet (records_of register ds))
     (sym (ap (λ b. b.documents) c.new-books.ensures))
     (documents-sheet c.self.inside.store.documents kept.short
-    (subst (λ (n : ℕ). n ≤ 2_000_000) kept.counted kept.within) register)
+    (subst (λ (n : ℕ). n ≤ 8_000_000) kept.counted kept.within) register)
 
 pub returns-in-Ok-Some : goal.returns-in-Ok-Some
-returns-in-Ok-Some c = λ meaning asked.
+returns-in-Ok-Some c = λ tested.
     let desk : Desk = c.args.self.now.desk in
     let sight = sight_view c.args.sight.now in
     let plan = c.args.plan in
@@ -56,8 +54,9 @@ returns-in-Ok-Some c = λ meaning asked.
     (λ i. document_from (sym setting i) (sym documents i) sight.before plan.doc plan.source)
     ∙ c.in-Ok-Some.ensures.value c.self.inside.store.documents books
     ∙ ap Ok c.in-Ok-Some.field-0-is in
-    subst (λ (e : Result Effect Refusal). IfOk c.put_outcome.result (Comes desk (or_stop e)))
-    (sym (plan-made desk meaning asked sight plan (Ok (Some document)) made))
+    subst (λ (e : Result Effect Refusal). IfOk c.put_outcome.result (Comes c.args.way.now desk
+    (or_stop e)))
+    (sym (plan-made c.args.way.now desk tested sight plan (Ok (Some document)) made))
     (c.put_outcome.ensures plan (sym c.len-lines.ensures)
     (made-own desk.setting desk.serial.documents sight.before plan.doc plan.source document made)
     c.requires.suits
@@ -65,7 +64,7 @@ returns-in-Ok-Some c = λ meaning asked.
     (c.deref.ensures.value ∙ c.in_ok-controls.ensures))
 
 pub returns-in-Ok-None : goal.returns-in-Ok-None
-returns-in-Ok-None c = λ meaning asked.
+returns-in-Ok-None c = λ tested.
     let desk : Desk = c.args.self.now.desk in
     let sight = sight_view c.args.sight.now in
     let plan = c.args.plan in
@@ -81,13 +80,14 @@ returns-in-Ok-None c = λ meaning asked.
     (λ i. document_from (sym setting i) (sym documents i) sight.before plan.doc plan.source)
     ∙ c.in-Ok-None.ensures.value c.self.inside.store.documents books
     ∙ ap Ok c.in-Ok-None.field-0-is in
-    subst (λ (e : Result Effect Refusal). Comes desk (or_stop e) c.remove_outcome.result)
-    (sym (plan-made desk meaning asked sight plan (Ok None) made))
+    subst (λ (e : Result Effect Refusal). Comes c.args.way.now desk (or_stop e)
+    c.remove_outcome.result)
+    (sym (plan-made c.args.way.now desk tested sight plan (Ok None) made))
     (c.remove_outcome.ensures plan (sym c.len-lines.ensures) refl c.requires.suits
     (none-removed desk.setting desk.serial.documents sight.before plan.doc plan.source made))
 
 pub returns-in-Err-Refused : goal.returns-in-Err-Refused
-returns-in-Err-Refused c = λ meaning asked.
+returns-in-Err-Refused c = λ tested.
     let desk : Desk = c.args.self.now.desk in
     let sight = sight_view c.args.sight.now in
     let plan = c.args.plan in
@@ -105,8 +105,10 @@ returns-in-Err-Refused c = λ meaning asked.
     (record { config = c.self.inside.config; rules = c.self.inside.rules })
     c.self.inside.store.documents sight.before plan.doc plan.source)) c.in-Err-Refused.field-0-is
     (c.in-Err-Refused.ensures.value c.self.inside.store.documents books) in
-    subst (λ (e : Result Effect Refusal). Comes desk (or_stop e) c.refused_outcome.result)
-    (sym (plan-made desk meaning asked sight plan (Err c.in-Err-Refused.refusal) made))
-    (subst (λ why. Comes desk (or_stop (made_effect desk sight plan (Err why)))
+    subst (λ (e : Result Effect Refusal). Comes c.args.way.now desk (or_stop e)
+    c.refused_outcome.result)
+    (sym (plan-made c.args.way.now desk tested sight plan (Err c.in-Err-Refused.refusal) made))
+    (subst (λ why. Comes c.args.way.now desk (or_stop (made_effect c.args.way.now desk sight plan
+    (Err why)))
     c.refused_outcome.result) c.in-Err-Refused.refusal-is
     (c.refused_outcome.ensures plan (sym c.len-lines.ensures)))

@@ -11,7 +11,8 @@ use Rattle.desk_core.proofs.desk.Desk.put_outcome.Goals as goal
 
 pub growth-requires-clause-before : goal.growth-requires-clause-before
 growth-requires-clause-before c = λ d seen.
-    seen-short c.args.self.now.desk.serial (sight_view c.args.sight.now) c.self.inside.top
+    seen-short c.args.way.now c.args.self.now.desk.serial (sight_view c.args.sight.now)
+    c.self.inside.top
     c.self.inside.records
     (subst (λ (ds : List Document). AreKept ds c.self.inside.top c.self.inside.records)
     (ap (λ (v : DeskView). v.desk.serial.documents) c.self.view_is) c.self.invariant.kept)

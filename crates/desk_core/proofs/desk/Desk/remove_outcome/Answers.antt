@@ -4,7 +4,7 @@ use Rattle.desk_words.specs.declared.reply.Acknowledgement.TheVariants.{Swept}
 use Rattle.desk_words.specs.declared.reply.Limit.TheVariants.{Records}
 use Rattle.desk_model.specs.State.{Desk}
 use Rattle.desk_model.specs.Stops.{or_stop}
-use Rattle.desk_model.specs.Limits.{records_before, records_with, within_limit, most_kept_records}
+use Rattle.desk_model.specs.Limits.{records_with, within_limit, most_kept_records}
 use Rattle.desk_plans.specs.Sights.{sight_view}
 use Rattle.desk_core.specs.declared.outcome.Change.TheVariants.{Remove}
 use Rattle.desk_core.specs.declared.outcome.Outcome.{Outcome}
@@ -28,6 +28,7 @@ returns-in-None c = λ plan lines own suits removed.
     omega (arith, kept.counted) in
     let passed = c.in-None.ensures plan (Ok None) lines
     (ap (λ n. within_limit Records n most_kept_records) (sym counted)) in
-    subst (λ (o : Outcome). Comes desk (or_stop (made_effect desk sight plan (Ok None))) o)
+    subst (λ (o : Outcome). Comes c.args.way.now desk (or_stop (made_effect c.args.way.now desk
+    sight plan (Ok None))) o)
     (ap (λ n. Changes (Remove n) (Swept n)) own ∙ sym c.removal_outcome.ensures)
-    (remove-comes desk sight plan c.requires.seen suits removed (sym passed))
+    (remove-comes c.args.way.now desk sight plan c.requires.seen suits removed (sym passed))
