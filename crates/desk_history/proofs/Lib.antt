@@ -1,3 +1,4 @@
 pub mod EntryLemmas
+pub mod OrderLemmas
 pub mod ReplayLemmas
 pub mod WorkedRows

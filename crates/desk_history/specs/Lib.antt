@@ -1,3 +1,4 @@
+pub mod ClerkOrder
 pub mod Entries
 pub mod Histories
 pub mod Replays

@@ -1,12 +1,14 @@
 //! Laws over the definitions, each the contract of a function that does nothing.
-ghost use Rattle.std.specs.Prelude.{◌≡◌, ◌<◌, ◌^◌, [], ◌∷◌, Some};
+ghost use Rattle.std.specs.Prelude.{◌≡◌, ℕ, ◌<◌, ◌^◌, List, [], ◌∷◌, Some, Ok};
 ghost use Rattle.reg_base.specs.declared.line.Line.{Line};
 ghost use Rattle.desk_words.specs.declared.request.Request.{Request};
 ghost use Rattle.desk_words.specs.WellFormed.{IsRequest};
-ghost use Rattle.desk_model.specs.State.{Command, Desk};
+ghost use Rattle.desk_model.specs.State.{Command, Desk, Setting, State};
 ghost use Rattle.desk_model.specs.Journals.{commands_text};
+ghost use Rattle.desk_history.specs.ClerkOrder.{EntriesRise};
 ghost use Rattle.desk_history.specs.Entries.{command_of};
 ghost use Rattle.desk_history.specs.Histories.{LineReplays, StepReplays};
+ghost use Rattle.desk_history.specs.Replays.{replayed};
 
 use desk_model::accepted_requests_replay;
 use desk_words::requests_read_back;
@@ -28,3 +30,10 @@ pub fn accepted_requests_are_replayed()
     accepted_requests_replay();
     entries_read_back();
 }
+
+/// Over the entries of a journal that replays, the numbers of each clerk's requests rise: so none
+/// is in it twice.
+pub fn numbers_rise_over_entries()
+    ensures { (setting : Setting) (entries : List (List ℕ)) (state : State)
+        → replayed setting entries ≡ Ok state → EntriesRise setting entries }
+{}

@@ -6,7 +6,8 @@
 //!
 //! Stands on: `desk_model` for what a command does, `desk_words` for the texts of requests.
 //!
-//! Promises: what a desk commits is read back, and replays to the state that it left.
+//! Promises: what a desk commits is read back, and replays to the state that it left; over entries
+//! that replay the numbers of each clerk rise.
 //!
 //! Leaves open: how the entries are kept, and what is replied.
 #![tactic(auto)]
@@ -15,4 +16,4 @@ mod entry;
 mod laws;
 
 pub use entry::{Command, print_entry, read_entry};
-pub use laws::{accepted_requests_are_replayed, entries_read_back};
+pub use laws::{accepted_requests_are_replayed, entries_read_back, numbers_rise_over_entries};

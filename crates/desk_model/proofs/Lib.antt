@@ -1,3 +1,4 @@
+pub mod Acknowledging
 pub mod ErrorLemmas
 pub mod ForAbove
 pub mod LawLemmas

@@ -15,7 +15,7 @@ use Rattle.desk_model.specs.Clerks.{is_batch}
 use Rattle.desk_model.specs.LastRequests.{last_of, with_last}
 use Rattle.desk_model.specs.Desk.{Event, meaning_at, step}
 use Rattle.desk_model.specs.Answers.{is_blank_line, refusal_event}
-use Rattle.desk_model.specs.Answers.{event_of_reading, line_event, line_desk}
+use Rattle.desk_model.specs.Answers.{desk_after, event_of_reading, line_event, line_desk}
 use Rattle.desk_model.specs.Laws.{Commits}
 use Rattle.desk_model.proofs.StepCases.{IsAbove, Stays, Enters, Comes, step-comes}
 
@@ -151,6 +151,19 @@ line-comes desk line = at (is_blank_line line) refl
     at true is = inl (blank-stays desk line is)
     at false is = reading is (request line) refl
 
+-- lines leave the setting
+line_desk-setting : (desk : Desk) (line : Line) → (line_desk desk line).setting ≡ desk.setting
+line_desk-setting desk line = elim (line-comes desk line) [
+  | inl stays ↦ ap (λ (d : Desk). d.setting) stays.same
+  | inr at_line ↦ ap (λ (d : Desk). d.setting) at_line.desk_is ∙ at_line.enters.setting_is
+]
+
+pub desk_after-setting : (desk : Desk) (lines : List Line) →
+    (desk_after desk lines).setting ≡ desk.setting
+desk_after-setting desk [] = refl
+desk_after-setting desk (line ∷ lines) =
+    desk_after-setting (line_desk desk line) lines ∙ line_desk-setting desk line
+
 -- ---- numbers rise
 
 -- a number was reached by a clerk's last request
@@ -175,37 +188,41 @@ left_by desk r enters = record {
   acknowledgement = enters.acknowledgement;
 }
 
+-- what is reached stays reached where a greater number takes the place of its clerk's last
+pub reached-put : (last : Last) (lasts : List Last) (clerk : List ℕ) (number : ℕ) →
+    IsAbove (last_of last.clerk lasts) last.number → HasReached number (last_of clerk lasts) →
+    HasReached number (last_of clerk (with_last last lasts))
+unfolding HasReached
+reached-put last lasts clerk number above reached = at (bytes_eq last.clerk clerk) refl
+  where
+    at : (own : Bool) → bytes_eq last.clerk clerk ≡ own →
+        HasReached number (last_of clerk (with_last last lasts))
+    at true own =
+        let same = (bytes_eq-Decides last.clerk clerk).0 own in
+        let before = subst (λ (c : List ℕ). HasReached number (last_of c lasts)) (sym same)
+        reached in
+        let below = reached-below number last.number (last_of last.clerk lasts) before above in
+        let is : last_of clerk (with_last last lasts) ≡ Some last =
+        ap (λ c. last_of c (with_last last lasts)) (sym same) ∙ last_of-put last lasts in
+        subst (HasReached number) (sym is) (omega (arith, below))
+    at false own = subst (HasReached number) (sym (last_of-other last lasts clerk own)) reached
+
 -- what is reached stays reached
 pub reached-kept : (desk : Desk) (line : Line) (clerk : List ℕ) (number : ℕ) →
     HasReached number (last_of clerk desk.serial.lasts) →
     HasReached number (last_of clerk (line_desk desk line).serial.lasts)
-unfolding HasReached left_by
+unfolding left_by
 reached-kept desk line clerk number reached = elim (line-comes desk line) [
   | inl stays ↦ subst (λ (d : Desk). HasReached number (last_of clerk d.serial.lasts))
       (sym stays.same) reached
-  | inr at_line ↦ entered at_line (bytes_eq (meaning_at desk at_line.r).clerk clerk) refl
+  | inr at_line ↦ entered at_line
 ]
   where
-    entered : (e : EntersAt desk line) → (own : Bool) →
-        bytes_eq (meaning_at desk e.r).clerk clerk ≡ own →
+    entered : (e : EntersAt desk line) →
         HasReached number (last_of clerk (line_desk desk line).serial.lasts)
-    entered e true own =
-        let same = (bytes_eq-Decides (meaning_at desk e.r).clerk clerk).0 own in
-        let before = subst (λ (c : List ℕ). HasReached number (last_of c desk.serial.lasts))
-        (sym same) reached in
-        let below = reached-below number e.enters.number
-        (last_of (meaning_at desk e.r).clerk desk.serial.lasts) before e.enters.above in
+    entered e =
         let is : last_of clerk (line_desk desk line).serial.lasts
-        ≡ Some (left_by desk e.r e.enters) =
-        ap (λ d. last_of clerk d.serial.lasts) e.desk_is
-        ∙ ap (last_of clerk) e.enters.lasts_are
-        ∙ ap (λ c. last_of c (with_last (left_by desk e.r e.enters) desk.serial.lasts)) (sym same)
-        ∙ last_of-put (left_by desk e.r e.enters) desk.serial.lasts in
-        subst (HasReached number) (sym is) (omega (arith, below))
-    entered e false own =
-        let is : last_of clerk (line_desk desk line).serial.lasts
-        ≡ last_of clerk desk.serial.lasts =
-        ap (λ d. last_of clerk d.serial.lasts) e.desk_is
-        ∙ ap (last_of clerk) e.enters.lasts_are
-        ∙ last_of-other (left_by desk e.r e.enters) desk.serial.lasts clerk own in
-        subst (HasReached number) (sym is) reached
+        ≡ last_of clerk (with_last (left_by desk e.r e.enters) desk.serial.lasts) =
+        ap (λ d. last_of clerk d.serial.lasts) e.desk_is ∙ ap (last_of clerk) e.enters.lasts_are in
+        subst (HasReached number) (sym is) (reached-put (left_by desk e.r e.enters)
+        desk.serial.lasts clerk number e.enters.above reached)

@@ -7,7 +7,7 @@ use Rattle.std.specs.Ordering.{match_ordering, nat_cmp}
 use Rattle.std.specs.declared.cmp.Ordering.{Ordering}
 use Rattle.std.specs.declared.cmp.Ordering.TheVariants.{Less, Equal, Greater}
 use Rattle.reg_base.specs.declared.right.Right.{Right}
-use Rattle.reg_base.specs.Results.{◌>>=◌, unless, none_or}
+use Rattle.reg_base.specs.Results.{◌>>=◌, unless}
 use Rattle.desk_words.specs.declared.request.Request.{Request}
 use Rattle.desk_words.specs.declared.request.Request.TheVariants.{Write, Post, Unpost, Mark, Manual}
 use Rattle.desk_words.specs.declared.request.Request.TheVariants.{Activity, Close, Sweep, Balance}
@@ -22,7 +22,7 @@ use Rattle.desk_words.specs.declared.reply.Reply.TheVariants.{Done}
 use Rattle.desk_words.specs.declared.reply.Refusal.{Refusal}
 use Rattle.desk_words.specs.declared.reply.Refusal.TheVariants.{UnknownClerk, NotAllowed, Stale}
 use Rattle.desk_model.specs.declared.last.Last.{Last}
-use Rattle.desk_model.specs.State.{Setting, State, Desk, Command}
+use Rattle.desk_model.specs.State.{Desk, Command}
 use Rattle.desk_model.specs.Stops.{Stop, refuses, or_stop}
 use Rattle.desk_model.specs.Clerks.{is_clerk, is_allowed}
 use Rattle.desk_model.specs.LastRequests.{is_same, last_of, with_last, same_number, number_after}
@@ -33,16 +33,14 @@ use Rattle.desk_model.specs.Questions.{question_doc, question_documents}
 use Rattle.desk_model.specs.RegisterQuestions.{question_balance, question_turnovers, question_both}
 use Rattle.desk_model.specs.LedgerQuestions.{question_account_balance, question_account_turnovers}
 use Rattle.desk_model.specs.LedgerQuestions.{question_account_both, question_pairs}
-use Rattle.desk_model.specs.Effects.{Effect, Tests, close_effect}
-use Rattle.desk_model.specs.Controls.{control_fault}
-use Rattle.desk_model.specs.Effects.{documents_with}
-use Rattle.desk_model.specs.Serial.{sight_of, made_at, work_effect, plan_effect}
+use Rattle.desk_model.specs.Effects.{Effect, close_effect}
 use Rattle.desk_model.specs.Serial.{change_effect, answer_effect}
 use Rattle.desk_model.specs.Serial.{question_answer, question_effect, effect_of}
 use Rattle.desk_model.specs.Desk.{Event, meaning_at, command_at, tests_of, commits_of, event_of}
 use Rattle.desk_model.specs.Desk.{entry_length, step}
 use Rattle.desk_model.specs.Journals.{entry_limit}
-use Rattle.desk_model.proofs.ErrorLemmas.{IfOk-last}
+use Rattle.desk_model.proofs.Acknowledging.{Acknowledges, change_effect-acknowledges}
+use Rattle.desk_model.proofs.Acknowledging.{close_effect-acknowledges}
 
 -- ---- a number beside the last one
 
@@ -67,28 +65,6 @@ number_after-above (Some last) number r h = at (nat_cmp number last.number) refl
     at Less is e = absurd (cc)
     at Equal is e = same (is_same r last.request) e
     at Greater is e = ranked number last.number Greater (sym is)
-
--- ---- what a deed leaves
-
--- what is done is acknowledged, and leaves the last requests
-record Acknowledges (state : State) (effect : Effect) : Type 0 where
-  acknowledgement : Acknowledgement
-  answer_is : effect.answer ≡ Acknowledged acknowledgement
-  lasts_are : effect.state.lasts ≡ state.lasts
-
-change_effect-acknowledges : (tests : Tests) (setting : Setting) (state : State) (number : ℕ)
-    (change : Change) → IfOk (change_effect tests setting state number change) (Acknowledges state)
-unfolding change_effect plan_effect work_effect
-change_effect-acknowledges tests setting state number change =
-    let sight = sight_of state number change in
-    IfOk-last (Acknowledges state) (change.plan sight) _
-    (λ plan. IfOk-last (Acknowledges state) (tests.limits sight plan
-    (made_at setting state sight plan)) _
-    (λ u. IfOk-last (Acknowledges state) tests.entry _
-    (λ v. IfOk-last (Acknowledges state) (made_at setting state sight plan) _
-    (λ after. IfOk-last (Acknowledges state) (none_or (control_fault setting plan
-    (documents_with sight.before after state.documents) sight.before after)) _
-    (λ held. record { acknowledgement = _; answer_is = refl; lasts_are = refl })))))
 
 -- ---- the cases
 
@@ -219,8 +195,7 @@ step-comes desk (Close c) =
     let entry = entry_limit desk.journal (entry_length desk (Close c)) in
     deed-comes desk (Close c) c.clerk _ c.no _ (closes c.date) _ _ _
     (entry >>= λ _. Ok (close_effect desk.serial c.date)) (λ command. refl) refl refl refl
-    (IfOk-last (Acknowledges desk.serial) entry _
-    (λ u. record { acknowledgement = _; answer_is = refl; lasts_are = refl }))
+    (close_effect-acknowledges entry desk.serial c.date)
 step-comes desk (Sweep s) = change-comes desk (Sweep s) s.clerk _ s.no _ _
 step-comes desk (Balance b) = inl (question-stays desk (Balance b) b.clerk
     (question_balance desk.setting.config b) _ _)
@@ -240,3 +215,10 @@ step-comes desk (Documents q) = inl (question-stays desk (Documents q) q.clerk
     (question_documents desk.setting.config q) _ _)
 step-comes desk (Doc q) = inl (question-stays desk (Doc q) q.clerk
     (question_doc desk.setting.config q) _ _)
+
+-- a step leaves the setting
+pub step-setting : (desk : Desk) (r : Request) → (step desk r).desk.setting ≡ desk.setting
+step-setting desk r = elim (step-comes desk r) [
+  | inl stays ↦ ap (λ (d : Desk). d.setting) stays.same
+  | inr enters ↦ enters.setting_is
+]

@@ -18,8 +18,8 @@ pub fn record_count(document: &Document) -> u32
     records + entries
 }
 
-// How many elements short lists have together.
-fn total_len<T>(lists: &[List<T>]) -> u32
+/// How many elements short lists have together.
+pub fn total_len<T>(lists: &[List<T>]) -> u32
     requires few { length lists.now ≤ 32 }
     requires short { AreShort lists.now }
     ensures value { result ≡ sum_by length lists.now }

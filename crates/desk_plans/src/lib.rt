@@ -32,7 +32,7 @@ mod states;
 mod tried;
 mod writes;
 
-pub use counts::record_count;
+pub use counts::{record_count, total_len};
 pub use documents::document_from;
 pub use given::wrong;
 pub use manual::plan_manual;
