@@ -1,0 +1,6 @@
+pub mod Tables
+pub mod ShownValues
+pub mod TrialBalances
+pub mod StockCards
+pub mod DocumentLists
+pub mod Amounts

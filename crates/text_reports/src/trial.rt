@@ -1,0 +1,160 @@
+//! The trial balance of a ledger.
+ghost use Rattle.std.specs.Prelude.{◌≡◌, ◌++◌, ◌∷◌, [], ◌≤◌, length, map, All, IfOk, OnOk, OnErr};
+ghost use Rattle.cfg_model.specs.Places.{account_at};
+ghost use Rattle.text_reports.specs.TrialBalances.{trial_balance_text, trial_lines as lines_of};
+ghost use Rattle.text_reports.specs.TrialBalances.{trial_header as words, trial_line as line_of};
+ghost use Rattle.text_reports.specs.TrialBalances.{total_line as line_of_totals, shown_name};
+ghost use Rattle.text_reports.specs.TrialBalances.{HasModerateNumbers};
+
+use crate::cells::{header, push_numbers};
+use crate::table::{Align, Column, print_report};
+use crate::totals::{Amount, leaf_total};
+use cfg_model::Chart;
+use reg_base::{AccountRow, Code, List, Memory, Text};
+use std::alloc::Global;
+
+// Account and name, and six numbers.
+const COLUMNS: [Column; 8] = [
+    Column {
+        width: 8,
+        align: Align::Left,
+    },
+    Column {
+        width: 12,
+        align: Align::Left,
+    },
+    Column {
+        width: 12,
+        align: Align::Right,
+    },
+    Column {
+        width: 12,
+        align: Align::Right,
+    },
+    Column {
+        width: 12,
+        align: Align::Right,
+    },
+    Column {
+        width: 12,
+        align: Align::Right,
+    },
+    Column {
+        width: 12,
+        align: Align::Right,
+    },
+    Column {
+        width: 12,
+        align: Align::Right,
+    },
+];
+
+/// Appends the trial balance of a ledger: a line for each row, in their order, with the name of its
+/// account, and a last one with the sums of the leaves that are not off-balance. Numbers have all
+/// decimals of the ledger's scale. An account that the chart does not have has no name, and is in
+/// no sum.
+#[tactic(auto, unfolding(crate::specs::TrialBalances::trial_balance_text))]
+pub fn trial_balance(
+    alloc: Global,
+    chart: &Chart,
+    rows: &[AccountRow],
+    out: &mut Vec<u8>,
+) -> Result<(), Memory>
+    requires few { length rows.now ≤ 100_000 }
+    requires moderate { All HasModerateNumbers rows.now }
+    ensures ok { OnOk result
+        (out.new.items ≡ out.old.items ++ trial_balance_text chart.now rows.now) }
+    ensures err { OnErr result (out.new.items ≡ out.old.items) }
+{
+    let lines = trial_lines(alloc, chart, rows)?;
+    print_report(alloc, &COLUMNS, lines.as_slice(), out)
+}
+
+fn trial_lines(
+    alloc: Global,
+    chart: &Chart,
+    rows: &[AccountRow],
+) -> Result<List<List<Text>>, Memory>
+    requires few { length rows.now ≤ 100_000 }
+    requires moderate { All HasModerateNumbers rows.now }
+    ensures { IfOk result (λ lines. lines ≡ lines_of chart.now rows.now) }
+{
+    let mut lines = List::new(alloc);
+    lines.push(trial_header(alloc)?)?;
+    push_rows(alloc, chart, rows, &mut lines)?;
+    lines.push(total_line(alloc, chart, rows)?)?;
+    Ok(lines)
+}
+
+fn trial_header(alloc: Global) -> Result<List<Text>, Memory>
+    ensures { IfOk result (λ cells. cells ≡ words) }
+{
+    header(
+        alloc,
+        &[
+            "account", "name", "open dr", "open cr", "turn dr", "turn cr", "close dr", "close cr",
+        ],
+    )
+}
+
+fn push_rows(
+    alloc: Global,
+    chart: &Chart,
+    rows: &[AccountRow],
+    lines: &mut List<List<Text>>,
+) -> Result<(), Memory>
+    ensures { OnOk result (lines.new ≡ lines.old ++ map (line_of chart.now) rows.now) }
+{
+    'rows: for row in rows {
+        lines.push(trial_line(alloc, chart, row)?)?;
+    }
+    Ok(())
+}
+
+fn trial_line(alloc: Global, chart: &Chart, row: &AccountRow) -> Result<List<Text>, Memory>
+    ensures { IfOk result (λ cells. cells ≡ line_of chart.now row.now) }
+{
+    let mut cells = List::new(alloc);
+    cells.push(Text::from_str(alloc, row.account.as_str())?)?;
+    cells.push(Text::from_str(alloc, account_name(chart, &row.account))?)?;
+    let numbers = [
+        row.open_dr,
+        row.open_cr,
+        row.turn_dr,
+        row.turn_cr,
+        row.close_dr,
+        row.close_cr,
+    ];
+    push_numbers(alloc, &mut cells, chart.scale, &numbers)?;
+    Ok(cells)
+}
+
+// The name of the account of this code, where the chart has it.
+fn account_name<'a>(chart: &'a Chart, code: &Code) -> &'a str
+    ensures { result.now ≡ shown_name (account_at code.now chart.now.accounts) }
+{
+    match chart.account(code) {
+        Some(account) => account.name.as_str(),
+        None => "",
+    }
+}
+
+fn total_line(alloc: Global, chart: &Chart, rows: &[AccountRow]) -> Result<List<Text>, Memory>
+    requires few { length rows.now ≤ 100_000 }
+    requires moderate { All HasModerateNumbers rows.now }
+    ensures { IfOk result (λ cells. cells ≡ line_of_totals chart.now rows.now) }
+{
+    let mut cells = List::new(alloc);
+    cells.push(Text::from_str(alloc, "TOTAL")?)?;
+    cells.push(Text::from_str(alloc, "")?)?;
+    let totals = [
+        leaf_total(chart, rows, Amount::OpenDr),
+        leaf_total(chart, rows, Amount::OpenCr),
+        leaf_total(chart, rows, Amount::TurnDr),
+        leaf_total(chart, rows, Amount::TurnCr),
+        leaf_total(chart, rows, Amount::CloseDr),
+        leaf_total(chart, rows, Amount::CloseCr),
+    ];
+    push_numbers(alloc, &mut cells, chart.scale, &totals)?;
+    Ok(cells)
+}
