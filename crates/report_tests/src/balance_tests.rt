@@ -124,21 +124,22 @@ fn rows_of(alloc: Global, table: &[Numbers]) -> Option<Vec<AccountRow>> {
 // How far from zero a number may be.
 const MOST: i128 = 100_000_000_000_000_000_000_000_000_000_000;
 
-fn is_moderate(n: i128) -> bool
-    ensures { result ≡ true → IsModerate n }
+fn is_moderate(n: &i128) -> bool
+    ensures { result ≡ true → IsModerate n.now }
 {
-    -MOST <= n && n <= MOST
+    -MOST <= *n && *n <= MOST
 }
 
 fn has_moderate_numbers(row: &AccountRow) -> bool
     ensures { result ≡ true → HasModerateNumbers row.now }
 {
-    is_moderate(row.open_dr)
-        && is_moderate(row.open_cr)
-        && is_moderate(row.turn_dr)
-        && is_moderate(row.turn_cr)
-        && is_moderate(row.close_dr)
-        && is_moderate(row.close_cr)
+    if !is_moderate(&row.open_dr) || !is_moderate(&row.open_cr) {
+        return false;
+    }
+    if !is_moderate(&row.turn_dr) || !is_moderate(&row.turn_cr) {
+        return false;
+    }
+    is_moderate(&row.close_dr) && is_moderate(&row.close_cr)
 }
 
 // Whether the numbers of all rows are as a trial balance asks.

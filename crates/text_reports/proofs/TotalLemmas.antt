@@ -1,19 +1,22 @@
 -- Sums of moderate numbers fit, as the code adds them up.
-use Rattle.std.proofs.Common.{◌≡◌, ℕ, ◌+◌, ◌*◌, ◌^◌, ◌<◌, ℤ, pos, negsuc, neg_ℤ, ◌+ℤ◌, ◌≤ℤ◌}
-use Rattle.std.proofs.Common.{Bool, true, false, cond, List, ◌∷◌, ap, ◌∙◌, sym, subst, arith, drop}
-use Rattle.std.proofs.Common.{get_or, length, SFits, to_z, of_z, drop-cons, suc}
+use Rattle.std.proofs.Common.{◌≡◌, ℕ, ◌+◌, ◌*◌, ◌^◌, ◌<◌, ◌≤◌, ℤ, pos, negsuc, neg_ℤ, ◌+ℤ◌, ◌≤ℤ◌}
+use Rattle.std.proofs.Common.{List, ◌∷◌, map, ap, ◌∙◌, sym, subst, arith, drop, get_or, length, SFits}
+use Rattle.std.proofs.Common.{to_z, of_z, drop-cons, suc, Bor}
 use Rattle.std.specs.List.{All}
 use Rattle.std.specs.Int.{w128}
+use Rattle.std.proofs.Math.ListN.{get_or-map, length-map}
 use Rattle.std.proofs.lemmas.Int.{ints, to_z-of_z}
-use Rattle.std.proofs.lemmas.List.Elements.{All-get_or}
+use Rattle.std.proofs.lemmas.List.Elements.{All-filter}
+use Rattle.std.proofs.lemmas.List.Sums.{length-filter, count_by-le-length}
 use Rattle.reg_base.specs.declared.tables.AccountRow.{AccountRow}
+use Rattle.reg_base.specs.Sums.{sum_over}
 use Rattle.cfg_model.specs.declared.ledger.Chart.{Chart}
 use Rattle.cfg_model.specs.LedgerLaws.{is_on_balance_leaf}
 use Rattle.text_reports.specs.declared.totals.Amount.{Amount}
 use Rattle.text_reports.specs.declared.totals.Amount.TheVariants.{OpenDr, OpenCr, TurnDr, TurnCr}
 use Rattle.text_reports.specs.declared.totals.Amount.TheVariants.{CloseDr, CloseCr}
 use Rattle.text_reports.specs.Amounts.{amount_of}
-use Rattle.text_reports.specs.TrialBalances.{leaf_total, IsModerate, HasModerateNumbers}
+use Rattle.text_reports.specs.TrialBalances.{leaf_rows, IsModerate, HasModerateNumbers}
 
 -- each number of a row of moderate numbers is moderate
 IsModerate-amount : (amount : Amount) (row : AccountRow) → HasModerateNumbers row
@@ -25,23 +28,39 @@ IsModerate-amount TurnCr row h = h.turn_cr
 IsModerate-amount CloseDr row h = h.close_dr
 IsModerate-amount CloseCr row h = h.close_cr
 
--- a number or nothing is moderate where the number is
-IsModerate-cond : (test : Bool) (n : ℤ) → IsModerate n → IsModerate (cond test n (pos 0))
-IsModerate-cond true n h = h
-IsModerate-cond false n h = record { low = omega (arith, ints); high = omega (arith, ints) }
+-- what a reference points to
+abbrev pub pointed : Bor AccountRow → AccountRow
+pointed row = row.now
 
--- what a row adds to a total
-abbrev pub part_of : Chart → Amount → AccountRow → ℤ
-part_of chart amount row =
-    cond (is_on_balance_leaf chart row.account) (amount_of amount row) (pos 0)
+-- so it is in a row of many
+pub IsModerate-row : (amount : Amount) (rows : List (Bor AccountRow)) (i : ℕ) (row : Bor AccountRow)
+    → i < length rows → row ≡ get_or rows i row → All HasModerateNumbers (map pointed rows)
+    → IsModerate (amount_of amount row.now)
+IsModerate-row amount rows i row below is all =
+    IsModerate-amount amount row.now
+    (subst HasModerateNumbers (get_or-map pointed rows i row ∙ ap pointed (sym is))
+    (all i row.now (omega (arith, below, length-map rows pointed))))
 
--- so is what a row of many adds to a total
-pub IsModerate-part : (chart : Chart) (amount : Amount) (rows : List AccountRow) (i : ℕ)
-    (row : AccountRow) → i < length rows → row ≡ get_or rows i row → All HasModerateNumbers rows
-    → IsModerate (part_of chart amount row)
-IsModerate-part chart amount rows i row below is all =
-    IsModerate-cond _ _ (IsModerate-amount amount row
-    (subst HasModerateNumbers (sym is) (All-get_or HasModerateNumbers rows i row below all)))
+-- the leaves are no more than the rows
+pub few-leaves : (leaves : List (Bor AccountRow)) (chart : Chart) (rows : List AccountRow)
+    → map pointed leaves ≡ leaf_rows chart rows → length rows ≤ 100_000 → length leaves ≤ 100_000
+few-leaves leaves chart rows is few =
+    let test = λ (row : AccountRow). is_on_balance_leaf chart row.account in omega (
+      arith,
+      few,
+      length-map leaves pointed,
+      ap length is,
+      length-filter test rows,
+      count_by-le-length test rows,
+    )
+
+-- their numbers are moderate where those of the rows are
+pub moderate-leaves : (leaves : List (Bor AccountRow)) (chart : Chart) (rows : List AccountRow)
+    → map pointed leaves ≡ leaf_rows chart rows → All HasModerateNumbers rows
+    → All HasModerateNumbers (map pointed leaves)
+moderate-leaves leaves chart rows is all =
+    subst (All HasModerateNumbers) (sym is)
+    (All-filter (λ row. is_on_balance_leaf chart row.account) HasModerateNumbers rows all)
 
 -- a number of up to 2 ^ 126 either side of zero fits
 fits-small : (n : ℤ) → neg_ℤ (pos (2 ^ 126)) ≤ℤ n → n ≤ℤ pos (2 ^ 126) → SFits w128 n
@@ -74,13 +93,13 @@ module _ (i : ℕ) (total part : ℤ) (few : i < 100_000)
       ap (λ n. to_z w128 (of_z w128 n)) (λ i. total +ℤ to_z-of_z w128 part part-fits i)
       ∙ to_z-of_z w128 (total +ℤ part) total-fits
 
--- the total of the rows from one on: what it adds, and the total of those behind it
-pub leaf_total-drop : (chart : Chart) (amount : Amount) (rows : List AccountRow) (i : ℕ)
-    (row : AccountRow) → i < length rows → row ≡ get_or rows i row
-    → leaf_total chart (drop i rows) (amount_of amount)
-    ≡ part_of chart amount row +ℤ leaf_total chart (drop (suc i) rows) (amount_of amount)
-leaf_total-drop chart amount rows i row below is =
-    ap (λ rs. leaf_total chart rs (amount_of amount))
+-- the sum of the rows from one on: what it adds, and the sum of those behind it
+pub sum_over-drop : (amount : Amount) (rows : List (Bor AccountRow)) (i : ℕ) (row : Bor AccountRow)
+    → i < length rows → row ≡ get_or rows i row
+    → sum_over (amount_of amount) (map pointed (drop i rows))
+    ≡ amount_of amount row.now +ℤ sum_over (amount_of amount) (map pointed (drop (suc i) rows))
+sum_over-drop amount rows i row below is =
+    ap (λ rs. sum_over (amount_of amount) (map pointed rs))
     (drop-cons rows i row below ∙ ap (λ r. r ∷ drop (suc i) rows) (sym is))
 
 -- a sum of three, from the left

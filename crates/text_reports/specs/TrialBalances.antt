@@ -1,6 +1,6 @@
 -- The trial balance of a ledger: what each account opens with, what moves and what it closes with.
-use Rattle.std.specs.Prelude.{ℕ, ℤ, pos, neg_ℤ, ◌≤ℤ◌, ◌^◌, if◌then◌else◌, Option, Some, None}
-use Rattle.std.specs.Prelude.{List, [], ◌∷◌, ◌++◌, map, codes}
+use Rattle.std.specs.Prelude.{ℕ, ℤ, pos, neg_ℤ, ◌≤ℤ◌, ◌^◌, Option, Some, None, List, [], ◌∷◌}
+use Rattle.std.specs.Prelude.{◌++◌, map, filter, codes}
 use Rattle.reg_base.specs.declared.tables.AccountRow.{AccountRow}
 use Rattle.reg_base.specs.Sums.{sum_over}
 use Rattle.cfg_model.specs.declared.account.Account.{Account}
@@ -36,25 +36,24 @@ abbrev pub trial_line : Chart → AccountRow → List (List ℕ)
 trial_line chart row = row.account ∷ shown_name (account_at row.account chart.accounts)
     ∷ shown_numbers chart.scale (trial_numbers row)
 
--- a number summed over the leaves that are not off-balance
-abbrev pub leaf_total : Chart → List AccountRow → (AccountRow → ℤ) → ℤ
-leaf_total chart rows number =
-    sum_over (λ row. if is_on_balance_leaf chart row.account then number row else pos 0) rows
+-- the rows of the leaves that are not off-balance
+abbrev pub leaf_rows : Chart → List AccountRow → List AccountRow
+leaf_rows chart rows = filter (λ row. is_on_balance_leaf chart row.account) rows
 
--- the totals of the numbers
-abbrev pub trial_totals : Chart → List AccountRow → List ℤ
-trial_totals chart rows = map (leaf_total chart rows) ((λ row. row.open_dr) ∷ (λ row. row.open_cr)
-    ∷ (λ row. row.turn_dr) ∷ (λ row. row.turn_cr) ∷ (λ row. row.close_dr) ∷ (λ row. row.close_cr)
-    ∷ [])
+-- the sums of each number of rows
+abbrev pub trial_totals : List AccountRow → List ℤ
+trial_totals rows = sum_over (λ row. row.open_dr) rows ∷ sum_over (λ row. row.open_cr) rows
+    ∷ sum_over (λ row. row.turn_dr) rows ∷ sum_over (λ row. row.turn_cr) rows
+    ∷ sum_over (λ row. row.close_dr) rows ∷ sum_over (λ row. row.close_cr) rows ∷ []
 
--- the last line
-abbrev pub total_line : Chart → List AccountRow → List (List ℕ)
-total_line chart rows =
-    codes "TOTAL" ∷ [] ∷ shown_numbers chart.scale (trial_totals chart rows)
+-- the last line: what the rows of the leaves sum to
+abbrev pub total_line : ℕ → List AccountRow → List (List ℕ)
+total_line scale leaves = codes "TOTAL" ∷ [] ∷ shown_numbers scale (trial_totals leaves)
 
 -- the lines: the words, the accounts as they come, the totals
 abbrev pub trial_lines : Chart → List AccountRow → List (List (List ℕ))
-trial_lines chart rows = trial_header ∷ map (trial_line chart) rows ++ (total_line chart rows ∷ [])
+trial_lines chart rows = trial_header ∷ map (trial_line chart) rows
+    ++ (total_line chart.scale (leaf_rows chart rows) ∷ [])
 
 -- the text of a trial balance
 unfoldable pub trial_balance_text : Chart → List AccountRow → List ℕ

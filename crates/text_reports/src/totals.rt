@@ -1,13 +1,16 @@
 //! The totals of a trial balance.
-ghost use Rattle.std.specs.Prelude.{◌≡◌, ◌≤◌, length, All, if◌then◌else◌, pos};
+ghost use Rattle.std.specs.Prelude.{◌≡◌, ◌≤◌, length, map, All, IfOk};
 ghost use Rattle.std.specs.List.{list_any};
+ghost use Rattle.reg_base.specs.Sums.{sum_over};
 ghost use Rattle.cfg_model.specs.Entries.{is_parent};
 ghost use Rattle.cfg_model.specs.LedgerLaws.{is_on_balance_leaf as on_balance_leaf};
-ghost use Rattle.text_reports.specs.TrialBalances.{leaf_total as total_of, HasModerateNumbers};
+ghost use Rattle.text_reports.specs.TrialBalances.{leaf_rows as rows_of_leaves};
+ghost use Rattle.text_reports.specs.TrialBalances.{HasModerateNumbers};
 ghost use Rattle.text_reports.specs.Amounts.{amount_of};
 
 use cfg_model::{Account, Chart};
-use reg_base::{AccountRow, Code};
+use reg_base::{AccountRow, Code, Memory};
+use std::alloc::Global;
 
 /// One of the numbers of a row.
 #[derive(Clone, Copy, Debug, PartialEq, Eq)]
@@ -35,29 +38,36 @@ impl Amount {
     }
 }
 
-// A number summed over the leaves that are not off-balance.
-pub(crate) fn leaf_total(chart: &Chart, rows: &[AccountRow], amount: Amount) -> i128
+// The rows of the leaves that are not off-balance.
+pub(crate) fn leaf_rows<'a>(
+    alloc: Global,
+    chart: &Chart,
+    rows: &'a [AccountRow],
+) -> Result<Vec<&'a AccountRow>, Memory>
+    ensures { IfOk result (λ leaves.
+        map (λ row. row.now) leaves.items ≡ rows_of_leaves chart.now rows.entry.now) }
+{
+    let mut leaves = Vec::new(alloc);
+    'rows: for row in rows {
+        if !is_on_balance_leaf(chart, &row.account) {
+            continue;
+        }
+        leaves.push(row)?;
+    }
+    Ok(leaves)
+}
+
+// The sum of a number of rows.
+pub(crate) fn total_of(rows: &[&AccountRow], amount: Amount) -> i128
     requires few { length rows.now ≤ 100_000 }
-    requires moderate { All HasModerateNumbers rows.now }
-    ensures { result ≡ total_of chart.now rows.now (amount_of amount) }
+    requires moderate { All HasModerateNumbers (map (λ row. row.now) rows.now) }
+    ensures { result ≡ sum_over (amount_of amount) (map (λ row. row.now) rows.now) }
 {
     let mut total = 0;
     'rows: for row in rows {
-        total += counted(chart, row, amount);
+        total += amount.of(row);
     }
     total
-}
-
-// What a row adds to a total.
-fn counted(chart: &Chart, row: &AccountRow, amount: Amount) -> i128
-    ensures { result ≡ (if on_balance_leaf chart.now row.now.account
-        then amount_of amount row.now else pos 0) }
-{
-    if is_on_balance_leaf(chart, &row.account) {
-        amount.of(row)
-    } else {
-        0
-    }
 }
 
 fn is_on_balance_leaf(chart: &Chart, code: &Code) -> bool

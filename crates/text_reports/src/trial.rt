@@ -8,9 +8,9 @@ ghost use Rattle.text_reports.specs.TrialBalances.{HasModerateNumbers};
 
 use crate::cells::{header, push_numbers};
 use crate::table::{Align, Column, print_report};
-use crate::totals::{Amount, leaf_total};
+use crate::totals::{Amount, leaf_rows, total_of};
 use cfg_model::Chart;
-use reg_base::{AccountRow, Code, List, Memory, Text};
+use reg_base::{AccountRow, Code, List, Memory, Scale, Text};
 use std::alloc::Global;
 
 // Account and name, and six numbers.
@@ -82,7 +82,8 @@ fn trial_lines(
     let mut lines = List::new(alloc);
     lines.push(trial_header(alloc)?)?;
     push_rows(alloc, chart, rows, &mut lines)?;
-    lines.push(total_line(alloc, chart, rows)?)?;
+    let leaves = leaf_rows(alloc, chart, rows)?;
+    lines.push(total_line(alloc, chart.scale, leaves.as_slice())?)?;
     Ok(lines)
 }
 
@@ -139,22 +140,24 @@ fn account_name<'a>(chart: &'a Chart, code: &Code) -> &'a str
     }
 }
 
-fn total_line(alloc: Global, chart: &Chart, rows: &[AccountRow]) -> Result<List<Text>, Memory>
-    requires few { length rows.now ≤ 100_000 }
-    requires moderate { All HasModerateNumbers rows.now }
-    ensures { IfOk result (λ cells. cells ≡ line_of_totals chart.now rows.now) }
+// The last line, of the rows of the leaves.
+fn total_line(alloc: Global, scale: Scale, leaves: &[&AccountRow]) -> Result<List<Text>, Memory>
+    requires few { length leaves.now ≤ 100_000 }
+    requires moderate { All HasModerateNumbers (map (λ row. row.now) leaves.now) }
+    ensures { let rows = map (λ row. row.now) leaves.now in
+        IfOk result (λ cells. cells ≡ line_of_totals scale rows) }
 {
     let mut cells = List::new(alloc);
     cells.push(Text::from_str(alloc, "TOTAL")?)?;
     cells.push(Text::from_str(alloc, "")?)?;
     let totals = [
-        leaf_total(chart, rows, Amount::OpenDr),
-        leaf_total(chart, rows, Amount::OpenCr),
-        leaf_total(chart, rows, Amount::TurnDr),
-        leaf_total(chart, rows, Amount::TurnCr),
-        leaf_total(chart, rows, Amount::CloseDr),
-        leaf_total(chart, rows, Amount::CloseCr),
+        total_of(leaves, Amount::OpenDr),
+        total_of(leaves, Amount::OpenCr),
+        total_of(leaves, Amount::TurnDr),
+        total_of(leaves, Amount::TurnCr),
+        total_of(leaves, Amount::CloseDr),
+        total_of(leaves, Amount::CloseCr),
     ];
-    push_numbers(alloc, &mut cells, chart.scale, &totals)?;
+    push_numbers(alloc, &mut cells, scale, &totals)?;
     Ok(cells)
 }
