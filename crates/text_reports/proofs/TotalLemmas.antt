@@ -1,7 +1,7 @@
 -- Sums of moderate numbers fit, as the code adds them up.
 use Rattle.std.proofs.Common.{◌≡◌, ℕ, ◌+◌, ◌*◌, ◌^◌, ◌<◌, ◌≤◌, ℤ, pos, negsuc, neg_ℤ, ◌+ℤ◌, ◌≤ℤ◌}
-use Rattle.std.proofs.Common.{List, ◌∷◌, map, ap, ◌∙◌, sym, subst, arith, drop, get_or, length, SFits}
-use Rattle.std.proofs.Common.{to_z, of_z, drop-cons, suc, Bor}
+use Rattle.std.proofs.Common.{List, ◌∷◌, map, ap, ◌∙◌, sym, subst, arith, drop, get_or, length}
+use Rattle.std.proofs.Common.{SFits, to_z, of_z, drop-cons, suc, Bor}
 use Rattle.std.specs.List.{All}
 use Rattle.std.specs.Int.{w128}
 use Rattle.std.proofs.Math.ListN.{get_or-map, length-map}

@@ -9,29 +9,33 @@ use crate::table::{Align, Column, print_report};
 use reg_base::{Code, DocRow, List, Memory, Name, Text};
 use std::alloc::Global;
 
-// Number, date, kind, state, and the key, which nothing follows.
-const COLUMNS: [Column; 5] = [
-    Column {
-        width: 10,
-        align: Align::Right,
-    },
-    Column {
-        width: 19,
-        align: Align::Left,
-    },
-    Column {
-        width: 24,
-        align: Align::Left,
-    },
-    Column {
-        width: 8,
-        align: Align::Left,
-    },
-    Column {
-        width: 0,
-        align: Align::Bare,
-    },
-];
+// The columns; nothing follows the key.
+const NUMBER: Column = Column {
+    width: 10,
+    align: Align::Right,
+};
+
+const DATE: Column = Column {
+    width: 19,
+    align: Align::Left,
+};
+
+const KIND: Column = Column {
+    width: 24,
+    align: Align::Left,
+};
+
+const STATE: Column = Column {
+    width: 8,
+    align: Align::Left,
+};
+
+const KEY: Column = Column {
+    width: 0,
+    align: Align::Bare,
+};
+
+const COLUMNS: [Column; 5] = [NUMBER, DATE, KIND, STATE, KEY];
 
 /// Appends a list of documents, a line for each row, in their order.
 #[tactic(auto, unfolding(crate::specs::DocumentLists::document_list_text))]

@@ -11,37 +11,28 @@ use cfg_model::{Register, Resource};
 use reg_base::{List, Memory, Row, Text};
 use std::alloc::Global;
 
-// Group, unit and resource, and four numbers.
-const COLUMNS: [Column; 7] = [
-    Column {
-        width: 32,
-        align: Align::Left,
-    },
-    Column {
-        width: 30,
-        align: Align::Left,
-    },
-    Column {
-        width: 12,
-        align: Align::Left,
-    },
-    Column {
-        width: 14,
-        align: Align::Right,
-    },
-    Column {
-        width: 14,
-        align: Align::Right,
-    },
-    Column {
-        width: 14,
-        align: Align::Right,
-    },
-    Column {
-        width: 14,
-        align: Align::Right,
-    },
-];
+// The columns.
+const GROUP: Column = Column {
+    width: 32,
+    align: Align::Left,
+};
+
+const UNIT: Column = Column {
+    width: 30,
+    align: Align::Left,
+};
+
+const RESOURCE: Column = Column {
+    width: 12,
+    align: Align::Left,
+};
+
+const SUM: Column = Column {
+    width: 14,
+    align: Align::Right,
+};
+
+const COLUMNS: [Column; 7] = [GROUP, UNIT, RESOURCE, SUM, SUM, SUM, SUM];
 
 /// Appends the stock card of a register: for each row, in their order, a line for each resource
 /// with its opening, receipt, expense and closing, with all decimals of the resource's scale. A

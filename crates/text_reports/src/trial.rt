@@ -13,41 +13,23 @@ use cfg_model::Chart;
 use reg_base::{AccountRow, Code, List, Memory, Scale, Text};
 use std::alloc::Global;
 
-// Account and name, and six numbers.
-const COLUMNS: [Column; 8] = [
-    Column {
-        width: 8,
-        align: Align::Left,
-    },
-    Column {
-        width: 12,
-        align: Align::Left,
-    },
-    Column {
-        width: 12,
-        align: Align::Right,
-    },
-    Column {
-        width: 12,
-        align: Align::Right,
-    },
-    Column {
-        width: 12,
-        align: Align::Right,
-    },
-    Column {
-        width: 12,
-        align: Align::Right,
-    },
-    Column {
-        width: 12,
-        align: Align::Right,
-    },
-    Column {
-        width: 12,
-        align: Align::Right,
-    },
-];
+// The columns.
+const ACCOUNT: Column = Column {
+    width: 8,
+    align: Align::Left,
+};
+
+const NAME: Column = Column {
+    width: 12,
+    align: Align::Left,
+};
+
+const SUM: Column = Column {
+    width: 12,
+    align: Align::Right,
+};
+
+const COLUMNS: [Column; 8] = [ACCOUNT, NAME, SUM, SUM, SUM, SUM, SUM, SUM];
 
 /// Appends the trial balance of a ledger: a line for each row, in their order, with the name of its
 /// account, and a last one with the sums of the leaves that are not off-balance. Numbers have all

@@ -1,5 +1,5 @@
-use Rattle.std.proofs.Common.{◌+ℤ◌, ◌+◌, ◌<◌, ◌*◌, ◌^◌, ◌≤ℤ◌, neg_ℤ, pos, ℤ, map, ap, ◌∙◌, sym, subst}
-use Rattle.std.proofs.Common.{arith, to_z, drop, add-one}
+use Rattle.std.proofs.Common.{◌+ℤ◌, ◌+◌, ◌<◌, ◌*◌, ◌^◌, ◌≤ℤ◌, neg_ℤ, pos, ℤ, map, ap, ◌∙◌, sym}
+use Rattle.std.proofs.Common.{subst, arith, to_z, drop, add-one}
 use Rattle.std.specs.Int.{w128}
 use Rattle.reg_base.specs.Sums.{sum_over}
 use Rattle.text_reports.specs.Amounts.{amount_of}
