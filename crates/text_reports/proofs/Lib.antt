@@ -1,3 +1,4 @@
 pub mod PlacingLemmas
 pub mod TotalLemmas
 mod WorkedRows
+pub mod AlignLemmas

@@ -7,12 +7,14 @@
 //! charts of accounts and registers.
 //!
 //! Promises: each call appends exactly the text of its report; where memory is wanted, nothing.
+//! The lines of a report without a bare column are of one length.
 //!
 //! Leaves open: where the rows come from and in which order, and how much memory a text takes.
 #![tactic(auto)]
 
 mod cells;
 mod documents;
+mod laws;
 mod placing;
 mod stock;
 mod table;
@@ -20,5 +22,6 @@ mod totals;
 mod trial;
 
 pub use documents::document_list;
+pub use laws::lines_align;
 pub use stock::stock_card;
 pub use trial::trial_balance;
