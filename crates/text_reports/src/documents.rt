@@ -37,7 +37,8 @@ const KEY: Column = Column {
 
 const COLUMNS: [Column; 5] = [NUMBER, DATE, KIND, STATE, KEY];
 
-/// Appends a list of documents, a line for each row, in their order.
+/// Appends a list of documents, a line for each row, in their order: number, date, kind (`manual`
+/// where there is none), state, and key (a dash where there is none).
 #[tactic(auto, unfolding(crate::specs::DocumentLists::document_list_text))]
 pub fn document_list(alloc: Global, docs: &[DocRow], out: &mut Vec<u8>) -> Result<(), Memory>
     ensures ok { OnOk result (out.new.items ≡ out.old.items ++ document_list_text docs.now) }

@@ -36,7 +36,8 @@ const COLUMNS: [Column; 7] = [GROUP, UNIT, RESOURCE, SUM, SUM, SUM, SUM];
 
 /// Appends the stock card of a register: for each row, in their order, a line for each resource
 /// with its opening, receipt, expense and closing, with all decimals of the resource's scale. A
-/// number that a row does not have is 0.
+/// number that a row does not have is 0. A unit is a document's point; others are a date, a point
+/// with its line behind a slash, and a dash for the range as a whole.
 #[tactic(auto, unfolding(crate::specs::StockCards::stock_card_text))]
 pub fn stock_card(
     alloc: Global,

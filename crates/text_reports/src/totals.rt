@@ -57,7 +57,7 @@ pub(crate) fn leaf_rows<'a>(
     Ok(leaves)
 }
 
-// The sum of a number of rows.
+// One number of rows, summed.
 pub(crate) fn total_of(rows: &[&AccountRow], amount: Amount) -> i128
     requires few { length rows.now ≤ 100_000 }
     requires moderate { All HasModerateNumbers (map (λ row. row.now) rows.now) }
