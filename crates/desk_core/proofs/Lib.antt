@@ -1,8 +1,10 @@
 pub mod ControlLemmas
 pub mod ControlSums
+pub mod CountLemmas
 pub mod DeedLemmas
 pub mod ShortLemmas
 pub mod DocumentLists
+pub mod ForAbove
 pub mod KeptLemmas
 pub mod LastLemmas
 pub mod LimitLemmas

@@ -13,7 +13,7 @@ use Rattle.std.proofs.lemmas.Bool.{false≢true}
 use Rattle.desk_words.specs.declared.reply.Refusal.{Refusal}
 use Rattle.desk_core.specs.declared.desk.StepEnd.{StepEnd}
 use Rattle.desk_core.specs.declared.desk.StepEnd.TheVariants.{Memory, DiskFault, Closed}
-use Rattle.desk_core.specs.Histories.{Holds, IsReady, Makes}
+use Rattle.desk_core.specs.Histories.{Holds, IsReady, Makes, ReplaysToEither}
 use Rattle.reg_base.specs.declared.line.Line.{Line}
 use Rattle.desk_words.specs.ReplyTexts.{reply_text}
 use Rattle.desk_model.specs.State.{Desk}
@@ -44,17 +44,24 @@ LineDone-blank view line journal disk blank ready = record {
       (grows_none disk (ready going).stands.stands.sure);
 }
 
+-- the desk after a line that is not blank is that of its event
+line_desk-event : (desk : Desk) (line : Line) → is_blank_line line ≡ false →
+    (line_event desk line).desk ≡ line_desk desk line
+unfolding line_desk
+line_desk-event desk line not_blank =
+    ap (λ b. cond b desk (line_event desk line).desk) (sym not_blank)
+
 -- another line is answered as its event is
 pub AnswersLine-event : (desk : Desk) (line : Line) (text : Vec ℕ Global) (new : Desk) →
     is_blank_line line ≡ false →
     text.items ≡ reply_text (line_event desk line).reply ++ 10 ∷ [] →
     new ≡ (line_event desk line).desk → AnswersLine desk line (Some text) new
-unfolding line_answer line_desk
+unfolding line_answer
 AnswersLine-event desk line text new not_blank text_is desk_is = record {
   text = text_is ∙ ap (λ b. cond b [] (reply_text (line_event desk line).reply ++ 10 ∷ []))
       (sym not_blank);
   blank = sym not_blank;
-  desk_is = desk_is ∙ ap (λ b. cond b desk (line_event desk line).desk) (sym not_blank);
+  desk_is = desk_is ∙ line_desk-event desk line not_blank;
 }
 
 -- the entries of a line that is not blank are those of its event
@@ -89,6 +96,8 @@ line-failed old new line disk disk_now faults faults_now DiskFault not_blank goi
   new_is = ends.new_is;
   grows = subst (λ (es : List (List ℕ)). Grows disk disk_now [] es)
       (line_entries-event old.desk line not_blank) ends.grows;
+  replays = subst (λ (d : Desk). ReplaysToEither old.desk d disk_now.content)
+      (line_desk-event old.desk line not_blank) ends.replays;
   cause = ends.cause;
 }
 line-failed old new line disk disk_now faults faults_now Closed not_blank going ends = absurd ends

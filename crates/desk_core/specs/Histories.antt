@@ -1,5 +1,5 @@
 -- A desk over its journal: what opens it, and what it leaves there.
-use Rattle.std.specs.Prelude.{◌≡◌, ⊤, ℕ, ◌+◌, false, true, Option, Some, IfSome, List, []}
+use Rattle.std.specs.Prelude.{◌≡◌, ◌⊎◌, ⊤, ℕ, ◌+◌, false, true, Option, Some, IfSome, List, []}
 use Rattle.std.specs.Prelude.{Result, Ok, Err}
 use Rattle.std.specs.Option.{option_map}
 use Rattle.reg_base.specs.Results.{◌>>=◌}
@@ -70,12 +70,18 @@ pub record Makes (entries : List (List ℕ)) (desk : Desk) (old new : DeskView)
   pub new_is : new ≡ record { desk = desk; stopped = false }
   pub grows : Grows disk disk_now entries []
 
--- a fault of the disk cut a step off: the desk is as before, and is stopped
-pub record Fails (entries : List (List ℕ)) (old new : DeskView) (disk disk_now : DiskState)
-    (faults faults_now : ℕ) : Type 0 where
+-- what a disk holds replays to the first of these desks or to the other
+abbrev pub ReplaysToEither : Desk → Desk → Option (List ℕ) → Type 0
+ReplaysToEither desk other content = ReplaysTo desk content ⊎ ReplaysTo other content
+
+-- a fault of the disk cut off a step that leads to this desk: the one that was is stopped, and what
+-- the disk holds replays to one of the two
+pub record Fails (entries : List (List ℕ)) (desk : Desk) (old new : DeskView)
+    (disk disk_now : DiskState) (faults faults_now : ℕ) : Type 0 where
   pub going : old.stopped ≡ false
   pub new_is : new ≡ record { desk = old.desk; stopped = true }
   pub grows : Grows disk disk_now [] entries
+  pub replays : ReplaysToEither old.desk desk disk_now.content
   pub cause : Rose faults faults_now
 
 -- what a step comes to by how it ends, where its request makes this event
@@ -86,6 +92,6 @@ StepEnds event old new disk disk_now faults faults_now (Ok reply) =
 StepEnds event old new disk disk_now faults faults_now (Err Memory) =
     (old.stopped ≡ false) × (new ≡ old)
 StepEnds event old new disk disk_now faults faults_now (Err DiskFault) =
-    Fails (event_entries event) old new disk disk_now faults faults_now
+    Fails (event_entries event) event.desk old new disk disk_now faults faults_now
 StepEnds event old new disk disk_now faults faults_now (Err Closed) =
     (old.stopped ≡ true) × (new ≡ old)

@@ -1,6 +1,8 @@
+pub mod BatchNumbers
 pub mod Books
 pub mod Changes
 pub mod Controls
+pub mod Counts
 pub mod DeskViews
 pub mod Histories
 pub mod Invariants

@@ -47,7 +47,8 @@ LineEnds old new line disk disk_now faults faults_now (Ok out) =
 LineEnds old new line disk disk_now faults faults_now (Err Memory) =
     (old.stopped ≡ false) × (new ≡ old)
 LineEnds old new line disk disk_now faults faults_now (Err DiskFault) =
-    Fails (line_entries old.desk line) old new disk disk_now faults faults_now
+    Fails (line_entries old.desk line) (line_desk old.desk line) old new disk disk_now faults
+    faults_now
 LineEnds old new line disk disk_now faults faults_now (Err Closed) =
     (old.stopped ≡ true) × (new ≡ old) × (is_blank_line line ≡ false)
 
@@ -59,7 +60,7 @@ TextEnds event old new disk disk_now faults faults_now (Ok text) =
     × Makes (event_entries event) event.desk old new disk disk_now
 TextEnds event old new disk disk_now faults faults_now (Err Memory) = new ≡ old
 TextEnds event old new disk disk_now faults faults_now (Err DiskFault) =
-    Fails (event_entries event) old new disk disk_now faults faults_now
+    Fails (event_entries event) event.desk old new disk disk_now faults faults_now
 TextEnds event old new disk disk_now faults faults_now (Err Closed) = ⊥
 
 -- the text of a refusal with a line feed, where memory was found

@@ -27,7 +27,7 @@ ServeEnds event old new disk disk_now faults faults_now (Ok replied) =
     IsSaid event replied × Makes (event_entries event) event.desk old new disk disk_now
 ServeEnds event old new disk disk_now faults faults_now (Err Memory) = new ≡ old
 ServeEnds event old new disk disk_now faults faults_now (Err DiskFault) =
-    Fails (event_entries event) old new disk disk_now faults faults_now
+    Fails (event_entries event) event.desk old new disk disk_now faults faults_now
 ServeEnds event old new disk disk_now faults faults_now (Err Closed) = ⊥
 
 -- what committing an entry, where there is one, comes to by how it ends

@@ -5,23 +5,26 @@
 //! bytes the journal has.
 //!
 //!     documents  [1: nail 10.000 50.00]  [2: nail -2.000 -10.00]        records  2        top  2
-ghost use Rattle.std.specs.Prelude.{◌≡◌, ◌≤◌, false, IfOk};
+ghost use Rattle.std.specs.Prelude.{◌≡◌, ◌≤◌, codes, false, IfOk};
+ghost use Rattle.reg_base.specs.Documents.{holder_of};
 ghost use Rattle.cfg_model.specs.Limits.{IsWithinLimits};
 ghost use Rattle.desk_words.specs.ReplyTexts.{HasScales};
 ghost use Rattle.desk_words.specs.WellFormed.{IsRequest};
 ghost use Rattle.desk_model.specs.State.{first_desk};
 ghost use Rattle.desk_model.specs.Desk.{step as step_of};
+ghost use Rattle.desk_model.specs.LastRequests.{last_of as last_request_of};
+ghost use Rattle.desk_core.specs.BatchNumbers.{number_behind};
 ghost use Rattle.desk_core.specs.Histories.{IsReady, IsUntouched, StepEnds};
 ghost use Rattle.desk_core.specs.Invariants.{AreFewStatements};
 
-use crate::numbers::copy_request;
+use crate::numbers::{copy_request, last_of};
 use crate::serving::Replied;
 use cfg_model::Config;
 use desk_model::{Last, replies_have_scales};
 use desk_words::{Reply, Request};
 use doc_store::Store;
 use post_journal::Journal;
-use reg_base::{Date, Memory};
+use reg_base::{Code, Date, Memory};
 use reg_io::Disk;
 use rule_lang::Rules;
 use std::alloc::Global;
@@ -109,6 +112,25 @@ impl Desk {
         ensures limits { IsWithinLimits result.now }
     {
         &self.config
+    }
+
+    /// The number of the document that has this key.
+    pub fn by_key(&self, key: &Code) -> Option<u32>
+        ensures { result ≡ holder_of key.now self.now.desk.serial.documents }
+    {
+        self.store.by_key(None, key)
+    }
+
+    /// The number that the next request of the clerk `batch`, which is built in, has to have: one
+    /// above its last one. At the greatest number it can only repeat.
+    pub fn batch_number(&self) -> u32
+        ensures { result ≡ number_behind (last_request_of (codes "batch")
+            self.now.desk.serial.lasts) }
+    {
+        match last_of(&self.lasts, "batch") {
+            Some(last) => last.number.saturating_add(1),
+            None => 1,
+        }
     }
 
     /// Whether a fault of the disk has stopped the desk.

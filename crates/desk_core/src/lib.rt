@@ -20,6 +20,7 @@ mod books;
 mod changes;
 mod clerks;
 mod controls;
+mod counts;
 mod deeds;
 mod desk;
 mod limits;
@@ -35,6 +36,7 @@ mod serving;
 mod way;
 
 pub use changes::Left;
+pub use counts::Counts;
 pub use desk::{Desk, StepEnd};
 pub use limits::{MOST_DOCUMENTS, MOST_ENTRY, MOST_JOURNAL, MOST_KEPT_RECORDS, MOST_LINES};
 pub use line::answer_line;

@@ -22,12 +22,12 @@ use reg_base::{Line, List, Memory, Name};
 use std::alloc::Global;
 use std::cmp::Ordering;
 
-// The last request of a clerk.
-pub(crate) fn last_of<'a>(lasts: &'a [Last], clerk: &Name) -> Option<&'a Last>
+// The last request of the clerk of a name.
+pub(crate) fn last_of<'a>(lasts: &'a [Last], clerk: &str) -> Option<&'a Last>
     ensures { option_map (λ l. l.now) result ≡ last_request_of clerk.now lasts.now }
 {
     'lasts: for last in lasts {
-        if last.clerk == *clerk {
+        if last.clerk.as_str() == clerk {
             return Some(last);
         }
     }
@@ -48,7 +48,7 @@ pub(crate) fn number_reply(
     let Some(number) = number_of(request) else {
         return Ok(None);
     };
-    let Some(last) = last_of(lasts, clerk_of(request)) else {
+    let Some(last) = last_of(lasts, clerk_of(request).as_str()) else {
         return Ok(None);
     };
     match number.cmp(&last.number) {

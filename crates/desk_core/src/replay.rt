@@ -122,7 +122,7 @@ impl Desk {
         let Some(number) = number_of(request) else {
             return false;
         };
-        match last_of(&self.lasts, clerk_of(request)) {
+        match last_of(&self.lasts, clerk_of(request).as_str()) {
             Some(last) => last.number < number,
             None => true,
         }

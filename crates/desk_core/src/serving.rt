@@ -1,6 +1,7 @@
 //! Serving a request: all memory first, then the append, then the desk.
 ghost use Rattle.std.specs.Prelude.{◌≡◌, ◌≤◌, ◌∷◌, [], false, Some, IfOk};
 ghost use Rattle.std.specs.Option.{ForSome};
+ghost use Rattle.desk_words.specs.ReplyTexts.{HasScales};
 ghost use Rattle.desk_words.specs.WellFormed.{IsRequest};
 ghost use Rattle.desk_model.specs.Desk.{command_at, step as step_of};
 ghost use Rattle.desk_model.specs.Journals.{commands_text};
@@ -35,6 +36,25 @@ pub struct Replied {
 }
 
 impl Desk {
+    /// What a request would be answered now. Nothing changes: it is for questions, which change
+    /// nothing anyway.
+    pub fn look(&self, alloc: Global, request: &Request) -> Result<Reply, Memory>
+        requires { IsRequest request.now }
+        ensures reply { IfOk result
+            (λ reply. reply ≡ (step_of self.now.desk request.now).reply) }
+
+        // So the reply can be printed.
+        ensures scales { IfOk result HasScales }
+    {
+        let Prepared {
+            reply,
+            text: _,
+            entry: _,
+        } = self.prepare(alloc, request)?;
+        replies_have_scales();
+        Ok(reply)
+    }
+
     // Makes one event of a desk that is not stopped.
     pub(crate) fn serve<D: Disk>(
         &mut self,
@@ -54,10 +74,10 @@ impl Desk {
         ensures same { D.borrow_name disk.new ≡ D.borrow_name disk.old }
     {
         self.keeps_numbers();
-        let Prepared { reply, text, entry } = self.prepare(alloc, &request)?;
-        self.enter(journal, disk, entry, request)?;
         self.keeps_few();
         accepted_requests_are_replayed();
+        let Prepared { reply, text, entry } = self.prepare(alloc, &request)?;
+        self.enter(journal, disk, entry, request)?;
         Ok(Replied { reply, text })
     }
 

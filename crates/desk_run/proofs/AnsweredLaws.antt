@@ -1,33 +1,35 @@
--- The laws hold among the lines that a call answered, at each of its ends.
-use Rattle.std.proofs.Common.{◌≡◌, ℕ, ◌+◌, List, [], ◌∷◌, ◌++◌, length, take, sym, ap, ◌∙◌, inl}
-use Rattle.std.proofs.Common.{inr, arith, take_all}
+-- The laws hold among the lines that a call answered, at each of its ends, and over the entries of
+-- the journal that it leaves.
+use Rattle.std.proofs.Common.{◌≡◌, ℕ, ◌+◌, List, [], ◌∷◌, ◌++◌, length, take, ap, ◌∙◌, inl}
+use Rattle.std.proofs.Common.{inr, arith, take_all, Option, None, Some, IfSome, append_assoc}
 use Rattle.std.specs.Prelude.{Result, Ok, Err}
+use Rattle.std.specs.Io.KnownBytes.{Appends}
+use Rattle.std.specs.Option.{option_map}
 use Rattle.std.proofs.Math.Seq.{take-append-add}
+use Rattle.std.proofs.lemmas.Option.{same_Some}
 use Rattle.reg_base.specs.declared.line.Line.{Line}
-use Rattle.desk_model.specs.State.{Setting}
-use Rattle.desk_model.specs.State.{Desk}
-use Rattle.desk_run.specs.declared.fault.Fault.{Fault}
-use Rattle.desk_run.specs.declared.fault.Fault.TheVariants.{Usage, Configuration, Rules, Memory}
-use Rattle.desk_run.specs.declared.fault.Fault.TheVariants.{Read, Write, File, FileTooLong}
-use Rattle.desk_run.specs.declared.fault.Fault.TheVariants.{InputTooLong, NotAJournal}
-use Rattle.desk_run.specs.declared.fault.Fault.TheVariants.{BadEntry, Entry, Disk}
-use Rattle.desk_model.specs.Answers.{line_answer, answers_to, desk_after}
-use Rattle.desk_run.specs.Inputs.{OpensAt}
 use Rattle.reg_io.specs.Disks.{DiskState}
+use Rattle.post_journal.specs.Images.{entries_held, image_of}
+use Rattle.post_journal.specs.Journals.{Keeps}
+use Rattle.desk_model.specs.State.{Setting, State, Desk}
+use Rattle.desk_model.specs.Answers.{line_answer, answers_to, desk_after}
+use Rattle.desk_model.specs.Laws.{LawsHold}
+use Rattle.desk_history.specs.ClerkOrder.{EntriesRise}
+use Rattle.desk_history.specs.Replays.{replayed}
 use Rattle.desk_run.specs.declared.run.RunEnd.{RunEnd}
 use Rattle.desk_run.specs.declared.run.RunEnd.TheVariants.{Memory as RunMemory, Read as RunRead}
 use Rattle.desk_run.specs.declared.run.RunEnd.TheVariants.{Write as RunWrite, Disk as RunDisk}
 use Rattle.desk_run.specs.declared.run.RunEnd.TheVariants.{InputTooLong as RunTooLong}
-use Rattle.std.proofs.Common.{Option, None, Some, append_assoc}
-use Rattle.std.specs.Io.KnownBytes.{Appends}
-use Rattle.desk_model.specs.Laws.{LawsHold}
-use Rattle.desk_run.specs.Runs.{AreFirstLines}
-use Rattle.desk_run.specs.Runs.{Streams, StopsAtWrite}
+use Rattle.desk_run.specs.declared.fault.Fault.{Fault}
 use Rattle.desk_run.specs.ConfigFiles.{ShelfState}
-use Rattle.desk_run.specs.Ends.{IsRun, RunsFile, RunsDesk, RunsUnder, RunsWith, Ends}
-use Rattle.desk_run.specs.Ends.{AnswersByLaws, HoldsConfig, KeepsLaws}
-use Rattle.desk_run.proofs.RunLemmas.{answers_to-more}
+use Rattle.desk_run.specs.Ends.{Ends, EndsAs, EndsUnder, IsDone, KeepsOut}
+use Rattle.desk_run.specs.Inputs.{OpensAt, ReplaysUnder}
+use Rattle.desk_run.specs.Promises.{AnswersByLaws, HistoryRises, HoldsConfig, KeepsLaws, KeepsOrder}
+use Rattle.desk_run.specs.Runs.{AreFirstLines, Runs, Streams, StopsAtWrite}
+use Rattle.desk_run.specs.Words.{Command, check, run}
 use Rattle.desk_run.proofs.Completeness.{held_config}
+use Rattle.desk_run.proofs.Opened.{again_opened}
+use Rattle.desk_run.proofs.RunLemmas.{answers_to-more}
 
 -- lines were answered whole
 laws_lines : (setting : Setting) (content : Option (List ℕ)) (desk : Desk) (lines : List Line)
@@ -74,139 +76,114 @@ first_less lines line (Some bytes) first =
     (line ∷ first.0, first.1 ∙ append_assoc lines (line ∷ []) first.0)
 
 -- the laws at each end of a run
-run_laws : (setting : Setting) (before now : Streams) (disk disk_now : DiskState) (f f_now : ℕ)
-    (end : Result (Unit {0}) RunEnd)
-    → RunsWith setting before now disk disk_now f f_now end
-    → KeepsLaws setting disk.content before now
-run_laws setting before now disk disk_now f f_now (Ok done) run =
-    inr (laws_lines setting disk.content run.desk run.run.lines before now run.opens
-    run.run.answered.first run.run.answered.out run.run.answered.laws)
-run_laws setting before now disk disk_now f f_now (Err RunMemory) run =
-    inr (laws_lines setting disk.content run.desk run.run.lines before now run.opens
-    run.run.answered.first run.run.answered.out run.run.answered.laws)
-run_laws setting before now disk disk_now f f_now (Err RunRead) run =
-    inr (laws_lines setting disk.content run.desk run.run.lines before now run.opens
-    run.run.answered.first run.run.answered.out run.run.answered.laws)
-run_laws setting before now disk disk_now f f_now (Err RunTooLong) run =
-    inr (laws_lines setting disk.content run.desk run.run.lines before now run.opens
-    run.run.answered.first run.run.answered.out run.run.answered.laws)
-run_laws setting before now disk disk_now f f_now (Err RunDisk) run =
-    inr (laws_lines setting disk.content run.desk run.run.lines before now run.opens
-    (first_less run.run.lines run.run.line before.left run.run.first) run.run.out run.run.laws)
-run_laws setting before now disk disk_now f f_now (Err RunWrite) run =
-    inr (laws_part setting disk.content run.desk run.after before now disk disk_now run.opens
-    run.run)
+run_laws : (setting : Setting) (content : Option (List ℕ)) (desk after : Desk)
+    (before now : Streams) (disk disk_now : DiskState) (f f_now : ℕ)
+    (end : Result (Unit {0}) RunEnd) → OpensAt setting content desk
+    → Runs desk after before now disk disk_now f f_now end
+    → AnswersByLaws setting content before now
+run_laws setting content desk after before now disk disk_now f f_now (Ok done) opens runs =
+    laws_lines setting content desk runs.lines before now opens runs.answered.first
+    runs.answered.out runs.answered.laws
+run_laws setting content desk after before now disk disk_now f f_now (Err RunMemory) opens runs =
+    laws_lines setting content desk runs.lines before now opens runs.answered.first
+    runs.answered.out runs.answered.laws
+run_laws setting content desk after before now disk disk_now f f_now (Err RunRead) opens runs =
+    laws_lines setting content desk runs.lines before now opens runs.answered.first
+    runs.answered.out runs.answered.laws
+run_laws setting content desk after before now disk disk_now f f_now (Err RunTooLong) opens runs =
+    laws_lines setting content desk runs.lines before now opens runs.answered.first
+    runs.answered.out runs.answered.laws
+run_laws setting content desk after before now disk disk_now f f_now (Err RunDisk) opens runs =
+    laws_lines setting content desk runs.lines before now opens
+    (first_less runs.lines runs.line before.left runs.first) runs.out runs.laws
+run_laws setting content desk after before now disk disk_now f f_now (Err RunWrite) opens runs =
+    laws_part setting content desk after before now disk disk_now opens runs
 
--- and at each end of a run under a configuration
-desk_laws : (setting : Setting) (before now : Streams) (disk disk_now : DiskState) (f f_now : ℕ)
-    (end : Result (Unit {0}) Fault)
-    → RunsDesk setting before now disk disk_now f f_now end
-    → KeepsLaws setting disk.content before now
-desk_laws setting before now disk disk_now f f_now (Ok done) run =
-    run_laws setting before now disk disk_now f f_now (Ok done) run
-desk_laws setting before now disk disk_now f f_now (Err Usage) run = absurd run
-desk_laws setting before now disk disk_now f f_now (Err (Configuration fault)) run = absurd run
-desk_laws setting before now disk disk_now f f_now (Err (Rules fault)) run = absurd run
-desk_laws setting before now disk disk_now f f_now (Err Memory) (inl stops) =
-    inl stops.out
-desk_laws setting before now disk disk_now f f_now (Err Memory) (inr run) =
-    run_laws setting before now disk disk_now f f_now (Err RunMemory) run
-desk_laws setting before now disk disk_now f f_now (Err NotAJournal) run = inl run.0.out
-desk_laws setting before now disk disk_now f f_now (Err (BadEntry place)) run = inl run.0.out
-desk_laws setting before now disk disk_now f f_now (Err (Entry index)) run = inl run.0.out
-desk_laws setting before now disk disk_now f f_now (Err Disk) (inl stops) =
-    inl stops.0.out
-desk_laws setting before now disk disk_now f f_now (Err Disk) (inr run) =
-    run_laws setting before now disk disk_now f f_now (Err RunDisk) run
-desk_laws setting before now disk disk_now f f_now (Err Read) run =
-    run_laws setting before now disk disk_now f f_now (Err RunRead) run
-desk_laws setting before now disk disk_now f f_now (Err Write) run =
-    run_laws setting before now disk disk_now f f_now (Err RunWrite) run
-desk_laws setting before now disk disk_now f f_now (Err File) run = absurd run
-desk_laws setting before now disk disk_now f f_now (Err FileTooLong) run = absurd run
-desk_laws setting before now disk disk_now f f_now (Err InputTooLong) run =
-    run_laws setting before now disk disk_now f f_now (Err RunTooLong) run
+-- the entries of a file that replay rise
+order_of : ((setting : Setting) (entries : List (List ℕ)) (state : State)
+    → replayed setting entries ≡ Ok state → EntriesRise setting entries)
+    → (setting : Setting) (content : Option (List ℕ)) → ReplaysUnder setting content
+    → HistoryRises setting content
+order_of rises setting None so = tt
+order_of rises setting (Some bytes) so = at (entries_held (image_of bytes)) so.1
+  where
+    at : (held : Option (List (List ℕ))) → option_map (replayed setting) held ≡ Some (Ok so.0)
+        → IfSome held (EntriesRise setting)
+    at None e = tt
+    at (Some entries) e = rises setting entries so.0 (same_Some _ _ e)
 
--- of the one configuration that the file holds
-under_laws : (words : List (List ℕ)) (shelf : ShelfState) (before now : Streams)
-    (disk disk_now : DiskState) (f f_now : ℕ) (setting : Setting) (name : List ℕ)
-    (end : Result (Unit {0}) Fault) → HoldsConfig words shelf setting → IsRun words name
-    → RunsUnder name shelf.files before now disk disk_now f f_now end
-    → KeepsLaws setting disk.content before now
-under_laws words shelf before now disk disk_now f f_now setting name end holds is_run run =
-    rw (sym (held_config words shelf setting name run.setting holds is_run run.accepted))
-    (desk_laws run.setting before now disk disk_now f f_now end run.run)
+-- so do those of a file that opens a desk, where no entry came and none went
+kept_order : ((setting : Setting) (entries : List (List ℕ)) (state : State)
+    → replayed setting entries ≡ Ok state → EntriesRise setting entries)
+    → (setting : Setting) (disk disk_now : DiskState) (desk : Desk)
+    → OpensAt setting disk.content desk → Keeps disk disk_now
+    → HistoryRises setting disk_now.content
+kept_order rises setting disk disk_now desk opens keeps = order_of rises setting disk_now.content
+    (again_opened setting opens.entries desk disk disk_now opens.stand keeps opens.opened)
 
-file_laws : (words : List (List ℕ)) (shelf shelf_now : ShelfState) (before now : Streams)
-    (disk disk_now : DiskState) (f f_now : ℕ) (setting : Setting) (name : List ℕ)
-    (end : Result (Unit {0}) Fault) → HoldsConfig words shelf setting → IsRun words name
-    → RunsFile name shelf shelf_now before now disk disk_now f f_now end
-    → KeepsLaws setting disk.content before now
-file_laws words shelf shelf_now before now disk disk_now f f_now setting name (Ok done) holds is_run
-    run =
-    under_laws words shelf before now disk disk_now f f_now setting name (Ok done) holds
-    is_run run
-file_laws words shelf shelf_now before now disk disk_now f f_now setting name (Err Usage) holds
-    is_run run =
-    absurd run
-file_laws words shelf shelf_now before now disk disk_now f f_now setting name (Err (Configuration
-    fault)) holds is_run
-    run = inl run.1
-file_laws words shelf shelf_now before now disk disk_now f f_now setting name (Err (Rules fault))
-    holds is_run
-    run = inl run.1
-file_laws words shelf shelf_now before now disk disk_now f f_now setting name (Err Memory) holds
-    is_run
-    (inl stops) = inl stops.out
-file_laws words shelf shelf_now before now disk disk_now f f_now setting name (Err Memory) holds
-    is_run
-    (inr run) = under_laws words shelf before now disk disk_now f f_now setting name (Err Memory)
-    holds is_run run
-file_laws words shelf shelf_now before now disk disk_now f f_now setting name (Err NotAJournal)
-    holds is_run
-    run = under_laws words shelf before now disk disk_now f f_now setting name (Err NotAJournal)
-    holds is_run run
-file_laws words shelf shelf_now before now disk disk_now f f_now setting name (Err (BadEntry place))
-    holds is_run
-    run = under_laws words shelf before now disk disk_now f f_now setting name (Err (BadEntry
-    place))
-    holds is_run run
-file_laws words shelf shelf_now before now disk disk_now f f_now setting name (Err (Entry index))
-    holds is_run
-    run = under_laws words shelf before now disk disk_now f f_now setting name (Err (Entry index))
-    holds is_run run
-file_laws words shelf shelf_now before now disk disk_now f f_now setting name (Err Disk) holds
-    is_run
-    run = under_laws words shelf before now disk disk_now f f_now setting name (Err Disk)
-    holds is_run run
-file_laws words shelf shelf_now before now disk disk_now f f_now setting name (Err Read) holds
-    is_run
-    run = under_laws words shelf before now disk disk_now f f_now setting name (Err Read)
-    holds is_run run
-file_laws words shelf shelf_now before now disk disk_now f f_now setting name (Err Write) holds
-    is_run
-    run = under_laws words shelf before now disk disk_now f f_now setting name (Err Write)
-    holds is_run run
-file_laws words shelf shelf_now before now disk disk_now f f_now setting name (Err File) holds
-    is_run
-    run = inl run.1
-file_laws words shelf shelf_now before now disk disk_now f f_now setting name (Err FileTooLong)
-    holds is_run
-    run = inl run.1
-file_laws words shelf shelf_now before now disk disk_now f f_now setting name (Err InputTooLong)
-    holds is_run
-    run = under_laws words shelf before now disk disk_now f f_now setting name (Err InputTooLong)
-    holds is_run run
+module _ (setting : Setting) (before now : Streams) (disk disk_now : DiskState) (f f_now : ℕ)
+    (end : Result (Unit {0}) Fault) where
+  -- at the desk that the journal opens
+  done_laws : (command : Command) → IsDone command setting before now disk disk_now f f_now end
+      → KeepsLaws command setting disk.content before now
+  done_laws (run name) done = inr (run_laws setting disk.content done.desk done.does.after before
+      now disk disk_now f f_now done.does.run_end
+      (record { entries = done.entries; stand = done.stand; opened = done.opened })
+      done.does.runs)
+  done_laws (check name) done = tt
+
+  -- where nothing was written
+  silent_laws : (command : Command) → KeepsOut before now
+      → KeepsLaws command setting disk.content before now
+  silent_laws (run name) out = inl out
+  silent_laws (check name) out = tt
+
+  under_laws : (command : Command) → EndsUnder command setting before now disk disk_now f f_now end
+      → KeepsLaws command setting disk.content before now
+  under_laws command (inl stops) = silent_laws command stops.nothing.out
+  under_laws command (inr done) = done_laws command done
+
+  -- what a call leaves of the journal's order
+  under_order : (rises : (setting : Setting) (entries : List (List ℕ)) (state : State)
+      → replayed setting entries ≡ Ok state → EntriesRise setting entries) (command : Command)
+      → EndsUnder command setting before now disk disk_now f f_now end
+      → KeepsOrder setting disk disk_now
+  under_order rises command (inl stops) desk opens =
+      kept_order rises setting disk disk_now desk opens stops.nothing.keeps
+  under_order rises command (inr done) desk opens =
+      order_of rises setting disk_now.content done.again
 
 -- what a call answered under the configuration that its file holds
 pub call_laws : (words : List (List ℕ)) (shelf shelf_now : ShelfState) (before now : Streams)
     (disk disk_now : DiskState) (f f_now : ℕ) (end : Result (Unit {0}) Fault)
     → Ends words shelf shelf_now before now disk disk_now f f_now end
-    → (setting : Setting) → HoldsConfig words shelf setting
-    → KeepsLaws setting disk.content before now
-call_laws words shelf shelf_now before now disk disk_now f f_now end ends setting holds =
-    elim ends [
-      | inl usage ↦ absurd (usage.0 holds.name holds.is_run)
-      | inr run ↦ file_laws words shelf shelf_now before now disk disk_now f f_now setting run.0
-          end holds run.1 run.2
-    ]
+    → (command : Command) (setting : Setting) → HoldsConfig words shelf command setting
+    → KeepsLaws command setting disk.content before now
+call_laws words shelf shelf_now before now disk disk_now f f_now end ends command setting holds =
+    at (rw holds.asked at ends)
+  where
+    at : EndsAs (Some command) shelf shelf_now before now disk disk_now f f_now end
+        → KeepsLaws command setting disk.content before now
+    at (inl stops) = silent_laws setting before now disk disk_now f f_now end command
+        stops.nothing.out
+    at (inr under) = under_laws setting before now disk disk_now f f_now end command
+        (rw (held_config words shelf command setting holds under.setting under.accepted)
+        at under.ends)
+
+-- and what it leaves of the journal's order
+pub call_order : ((setting : Setting) (entries : List (List ℕ)) (state : State)
+    → replayed setting entries ≡ Ok state → EntriesRise setting entries)
+    → (words : List (List ℕ)) (shelf shelf_now : ShelfState) (before now : Streams)
+    (disk disk_now : DiskState) (f f_now : ℕ) (end : Result (Unit {0}) Fault)
+    → Ends words shelf shelf_now before now disk disk_now f f_now end
+    → (command : Command) (setting : Setting) → HoldsConfig words shelf command setting
+    → KeepsOrder setting disk disk_now
+call_order rises words shelf shelf_now before now disk disk_now f f_now end ends command setting
+    holds desk opens = at (rw holds.asked at ends)
+  where
+    at : EndsAs (Some command) shelf shelf_now before now disk disk_now f f_now end
+        → HistoryRises setting disk_now.content
+    at (inl stops) = kept_order rises setting disk disk_now desk opens stops.nothing.keeps
+    at (inr under) = under_order setting before now disk disk_now f f_now end rises command
+        (rw (held_config words shelf command setting holds under.setting under.accepted)
+        at under.ends) desk opens

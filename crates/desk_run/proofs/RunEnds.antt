@@ -340,7 +340,8 @@ Runs-answer desk now next first ahead_now ahead_next left_now room_now room_next
       desk_is = answered.1 ∙ running.desk_is;
       grows = grows_cut_off desk now.desk running.lines line disk disk_now disk_next
           running.desk_is running.commits answered.2;
-      cause = Rose-later faults faults_now faults_next disk_later answered.3;
+      replays = rw answered.1 answered.3;
+      cause = Rose-later faults faults_now faults_next disk_later answered.4;
     }
 Runs-answer desk now next first ahead_now ahead_next left_now room_now room_next ended_now ended
     out_first out_now out_next reads reads_now writes writes_now writes_next line Read journal

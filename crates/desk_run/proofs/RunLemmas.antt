@@ -2,7 +2,7 @@
 use Rattle.std.proofs.Common.{◌≡◌, ℕ, ◌+◌, ◌≤◌, ◌<◌, Bool, true, false, List, [], ◌∷◌, ◌++◌, length}
 use Rattle.std.proofs.Common.{take, refl, sym, ap, ◌∙◌, inl, inr, arith, append_assoc, append-nil}
 use Rattle.std.proofs.Common.{length-append}
-use Rattle.std.specs.Prelude.{Result, Ok, Err, IsErr, IsErrAnd, nat_le, if◌then◌else◌}
+use Rattle.std.specs.Prelude.{nat_le, if◌then◌else◌}
 use Rattle.std.proofs.Math.Seq.{take-append-add}
 use Rattle.reg_io.specs.Lines.{lines_of, whole_lines_of}
 use Rattle.reg_io.specs.LineStates.{IsFirstLine, HasNoWholeLine, IsBeyondRoom, EndsLine}
@@ -40,12 +40,6 @@ entries_to-more desk [] line = append-nil (line_entries desk line)
 entries_to-more desk (first ∷ lines) line =
     ap (λ l. line_entries desk first ++ l) (entries_to-more (line_desk desk first) lines line)
     ∙ sym (append_assoc (line_entries desk first) _ _)
-
--- an answer that is a fault, and that one
-pub is_fault : {T E : Type 0} (result : Result T E) (fault : E)
-    → IsErr result × IsErrAnd result (λ e. e ≡ fault) → result ≡ Err fault
-is_fault (Ok value) fault told = absurd told.1
-is_fault (Err e) fault told = ap Err told.1
 
 -- at first no line was given
 pub AreGiven-none : (ended : Bool) (first : List ℕ)

@@ -15,6 +15,7 @@ use Rattle.reg_io.specs.Disks.{DiskState}
 use Rattle.post_journal.specs.Journals.{Grows}
 use Rattle.desk_history.specs.Histories.{line_entries}
 use Rattle.desk_core.specs.DeskViews.{DeskView}
+use Rattle.desk_core.specs.Histories.{ReplaysToEither}
 use Rattle.desk_core.specs.declared.desk.StepEnd.{StepEnd}
 use Rattle.desk_core.specs.declared.desk.StepEnd.TheVariants.{Memory as StepMemory}
 use Rattle.desk_core.specs.declared.desk.StepEnd.TheVariants.{DiskFault, Closed}
@@ -53,7 +54,9 @@ Answered old new line out out_now writes writes_now disk disk_now faults faults_
     (Err Memory) = (out_now ≡ out) × (new ≡ old) × Grows disk disk_now [] []
 Answered old new line out out_now writes writes_now disk disk_now faults faults_now
     (Err Disk) = (out_now ≡ out) × (new.desk ≡ old.desk)
-    × Grows disk disk_now [] (line_entries old.desk line) × Rose faults faults_now
+    × Grows disk disk_now [] (line_entries old.desk line)
+    × ReplaysToEither old.desk (line_desk old.desk line) disk_now.content
+    × Rose faults faults_now
 Answered old new line out out_now writes writes_now disk disk_now faults faults_now
     (Err Write) = AppendsPrefix out out_now (line_answer old.desk line)
     × RunsLine old new line disk disk_now × Rose writes writes_now

@@ -1,130 +1,169 @@
--- What a top call comes to: its cause by the words, the file and the run, and its line.
-use Rattle.std.specs.Prelude.{◌≡◌, ◌≢◌, ◌⊎◌, ⊤, ℕ, codes, ◌≤◌, List, [], ◌∷◌, length, take, Option}
-use Rattle.std.specs.Prelude.{Some, IfSome, Result, Ok, Err}
+-- What a top call comes to: its cause by the words, the file, the journal and the command.
+use Rattle.std.specs.Prelude.{◌≡◌, ◌⊎◌, ⊤, ℕ, List, length, Option, Some, None}
+use Rattle.std.specs.Prelude.{IfSome, Result, Ok, Err}
 use Rattle.std.specs.Io.KnownBytes.{Appends}
 use Rattle.reg_io.specs.Counts.{AppendsPrefix, Rose}
 use Rattle.reg_io.specs.Disks.{DiskState}
 use Rattle.post_journal.specs.Images.{bad_entry, image_of, not_a_journal}
 use Rattle.post_journal.specs.Journals.{Keeps}
-use Rattle.reg_io.specs.Files.{file_named, file_read}
-use Rattle.desk_model.specs.State.{Setting}
-use Rattle.cfg_model.specs.Reading.{read_config}
-use Rattle.reg_base.specs.declared.line.Line.{Line}
-use Rattle.desk_model.specs.State.{Desk}
-use Rattle.desk_model.specs.Answers.{answers_to}
-use Rattle.desk_model.specs.Laws.{LawsHold}
-use Rattle.desk_run.specs.Inputs.{OpensAt, StopsAtEntry, answers}
+use Rattle.desk_model.specs.State.{Setting, Desk}
+use Rattle.desk_core.specs.Counts.{counts_of}
 use Rattle.desk_run.specs.declared.run.RunEnd.{RunEnd}
-use Rattle.desk_run.specs.declared.run.RunEnd.TheVariants.{Memory as RunMemory, Read as RunRead}
-use Rattle.desk_run.specs.declared.run.RunEnd.TheVariants.{Disk as RunDisk}
-use Rattle.desk_run.specs.declared.run.RunEnd.TheVariants.{Write as RunWrite}
-use Rattle.desk_run.specs.declared.run.RunEnd.TheVariants.{InputTooLong as RunTooLong}
 use Rattle.desk_run.specs.declared.fault.Fault.{Fault}
 use Rattle.desk_run.specs.declared.fault.Fault.TheVariants.{Usage, Configuration, Rules, Memory}
 use Rattle.desk_run.specs.declared.fault.Fault.TheVariants.{Read, Write, File, FileTooLong}
 use Rattle.desk_run.specs.declared.fault.Fault.TheVariants.{InputTooLong, NotAJournal}
 use Rattle.desk_run.specs.declared.fault.Fault.TheVariants.{BadEntry, Entry, Disk}
-use Rattle.desk_run.specs.Runs.{most_input_bytes, AreFirstLines, Streams, Runs}
-use Rattle.desk_run.specs.Statuses.{fault_line, end_status}
-use Rattle.desk_run.specs.ConfigFiles.{most_config_bytes, ShelfState}
-use Rattle.desk_run.specs.ConfigFiles.{IsLongFile, ReadsAs, IsAccepted, RefusesRules}
-
--- the words ask for a run with the configuration of this name
-abbrev pub IsRun : List (List ℕ) → List ℕ → Type 0
-IsRun words name = words ≡ codes "run" ∷ name ∷ []
-
--- the words are none of the lists that are built
-abbrev pub AskNothing : List (List ℕ) → Type 0
-AskNothing words = (name : List ℕ) → words ≢ codes "run" ∷ name ∷ []
+use Rattle.desk_run.specs.ConfigFiles.{IsAccepted, ReadsAs, ReadsConfig, ShelfState}
+use Rattle.desk_run.specs.Inputs.{HasEntries, ReplaysUnder, StopsAtEntry}
+use Rattle.desk_run.specs.CheckTexts.{check_text}
+use Rattle.desk_run.specs.Runs.{Runs, Streams}
+use Rattle.desk_run.specs.Statuses.{end_status, fault_line, run_fault}
+use Rattle.desk_run.specs.Words.{Command, check, command_of, config_of, run}
+use Rattle.desk_core.specs.Histories.{opened_desk}
 
 -- nothing was written to the output
 abbrev pub KeepsOut : Streams → Streams → Type 0
 KeepsOut before now = now.taken ≡ before.taken
 
--- the lines are run at the desk that the entries of the disk open, to this end
-pub record RunsWith (setting : Setting) (before now : Streams) (disk disk_now : DiskState)
-    (faults faults_now : ℕ) (end : Result (Unit {0}) RunEnd) : Type 0 where
-  pub desk : Desk
-  pub opens : OpensAt setting disk.content desk
-  pub after : Desk
-  pub run : Runs desk after before now disk disk_now faults faults_now end
-
--- the journal was not opened: no line was answered, and no entry came and none went
-pub record StopsOpening (before now : Streams) (disk disk_now : DiskState) : Type 0 where
+-- nothing was written to the output, and no entry of the journal came or went
+pub record DoesNothing (before now : Streams) (disk disk_now : DiskState) : Type 0 where
   pub out : KeepsOut before now
   pub keeps : Keeps disk disk_now
 
--- what a run under a configuration comes to: its journal is refused, or its lines are run
-abbrev pub RunsDesk : Setting → Streams → Streams → DiskState → DiskState → ℕ → ℕ
-    → Result (Unit {0}) Fault → Type 0
-RunsDesk setting before now disk disk_now faults faults_now (Ok done) =
-    RunsWith setting before now disk disk_now faults faults_now (Ok done)
-RunsDesk setting before now disk disk_now faults faults_now (Err Read) =
-    RunsWith setting before now disk disk_now faults faults_now (Err RunRead)
-RunsDesk setting before now disk disk_now faults faults_now (Err Write) =
-    RunsWith setting before now disk disk_now faults faults_now (Err RunWrite)
-RunsDesk setting before now disk disk_now faults faults_now (Err InputTooLong) =
-    RunsWith setting before now disk disk_now faults faults_now (Err RunTooLong)
-RunsDesk setting before now disk disk_now faults faults_now (Err Memory) =
-    StopsOpening before now disk disk_now
-    ⊎ RunsWith setting before now disk disk_now faults faults_now (Err RunMemory)
-RunsDesk setting before now disk disk_now faults faults_now (Err Disk) =
-    (StopsOpening before now disk disk_now × Rose faults faults_now)
-    ⊎ RunsWith setting before now disk disk_now faults faults_now (Err RunDisk)
-RunsDesk setting before now disk disk_now faults faults_now (Err NotAJournal) =
-    StopsOpening before now disk disk_now × (disk_now.content ≡ disk.content)
+-- ---- before the journal is opened
+
+-- the configuration of this name is not read, or is refused
+pub record StopsBefore (name : List ℕ) (shelf shelf_now : ShelfState) (before now : Streams)
+    (disk disk_now : DiskState) (end : Result (Unit {0}) Fault) : Type 0 where
+  pub fault : Fault
+  pub end_is : end ≡ Err fault
+  pub reads : ReadsConfig name shelf shelf_now (Err fault)
+  pub nothing : DoesNothing before now disk disk_now
+
+-- ---- while it is opened
+
+-- why a journal does not open, by the fault: what its file holds, a call of the disk, or memory
+abbrev pub RefusesJournal : Setting → DiskState → DiskState → ℕ → ℕ → Fault → Type 0
+RefusesJournal setting disk disk_now faults faults_now NotAJournal =
+    (disk_now.content ≡ disk.content)
     × IfSome disk.content (λ bytes. image_of bytes ≡ not_a_journal)
-RunsDesk setting before now disk disk_now faults faults_now (Err (BadEntry place)) =
-    StopsOpening before now disk disk_now × (disk_now.content ≡ disk.content)
+RefusesJournal setting disk disk_now faults faults_now (BadEntry place) =
+    (disk_now.content ≡ disk.content)
     × IfSome disk.content (λ bytes. image_of bytes ≡ bad_entry place)
-RunsDesk setting before now disk disk_now faults faults_now (Err (Entry index)) =
-    StopsOpening before now disk disk_now × StopsAtEntry setting disk.content index
-RunsDesk setting before now disk disk_now faults faults_now (Err File) = ⊥
-RunsDesk setting before now disk disk_now faults faults_now (Err FileTooLong) = ⊥
-RunsDesk setting before now disk disk_now faults faults_now (Err (Configuration fault)) = ⊥
-RunsDesk setting before now disk disk_now faults faults_now (Err (Rules fault)) = ⊥
-RunsDesk setting before now disk disk_now faults faults_now (Err Usage) = ⊥
+RefusesJournal setting disk disk_now faults faults_now (Entry index) =
+    StopsAtEntry setting disk.content index
+RefusesJournal setting disk disk_now faults faults_now Disk = Rose faults faults_now
+RefusesJournal setting disk disk_now faults faults_now Memory = ⊤
+RefusesJournal setting disk disk_now faults faults_now Read = ⊥
+RefusesJournal setting disk disk_now faults faults_now Write = ⊥
+RefusesJournal setting disk disk_now faults faults_now InputTooLong = ⊥
+RefusesJournal setting disk disk_now faults faults_now File = ⊥
+RefusesJournal setting disk disk_now faults faults_now FileTooLong = ⊥
+RefusesJournal setting disk disk_now faults faults_now (Configuration fault) = ⊥
+RefusesJournal setting disk disk_now faults faults_now (Rules fault) = ⊥
+RefusesJournal setting disk disk_now faults faults_now Usage = ⊥
 
--- the configuration of this name is accepted, and the run under it comes to this end
-pub record RunsUnder (name : List ℕ) (files : Option (List (List ℕ × List ℕ)))
-    (before now : Streams) (disk disk_now : DiskState) (faults faults_now : ℕ)
+-- the journal is not opened
+pub record StopsOpening (setting : Setting) (before now : Streams) (disk disk_now : DiskState)
+    (faults faults_now : ℕ) (end : Result (Unit {0}) Fault) : Type 0 where
+  pub fault : Fault
+  pub end_is : end ≡ Err fault
+  pub refuses : RefusesJournal setting disk disk_now faults faults_now fault
+  pub nothing : DoesNothing before now disk disk_now
+
+-- ---- at the desk that it opens
+
+-- an end of a run, as one of a call
+abbrev pub end_of_run : Result (Unit {0}) RunEnd → Result (Unit {0}) Fault
+end_of_run (Ok u) = Ok tt
+end_of_run (Err end) = Err (run_fault end)
+
+-- the lines of the input are run
+pub record RunsLines (desk : Desk) (before now : Streams) (disk disk_now : DiskState)
+    (faults faults_now : ℕ) (end : Result (Unit {0}) Fault) : Type 0 where
+  pub after : Desk
+  pub run_end : Result (Unit {0}) RunEnd
+  pub end_is : end ≡ end_of_run run_end
+  pub runs : Runs desk after before now disk disk_now faults faults_now run_end
+
+-- a text is written whole, or a front of it where a write failed, or nothing where memory was
+-- refused
+abbrev pub WritesText : List ℕ → Option (List ℕ) → Option (List ℕ) → ℕ → ℕ
+    → Result (Unit {0}) Fault → Type 0
+WritesText text before now faults faults_now (Ok u) = Appends before now text
+WritesText text before now faults faults_now (Err Write) =
+    AppendsPrefix before now text × Rose faults faults_now
+WritesText text before now faults faults_now (Err Memory) = now ≡ before
+WritesText text before now faults faults_now (Err Read) = ⊥
+WritesText text before now faults faults_now (Err Disk) = ⊥
+WritesText text before now faults faults_now (Err NotAJournal) = ⊥
+WritesText text before now faults faults_now (Err (BadEntry place)) = ⊥
+WritesText text before now faults faults_now (Err (Entry index)) = ⊥
+WritesText text before now faults faults_now (Err InputTooLong) = ⊥
+WritesText text before now faults faults_now (Err File) = ⊥
+WritesText text before now faults faults_now (Err FileTooLong) = ⊥
+WritesText text before now faults faults_now (Err (Configuration fault)) = ⊥
+WritesText text before now faults faults_now (Err (Rules fault)) = ⊥
+WritesText text before now faults faults_now (Err Usage) = ⊥
+
+-- a text is written, and no entry of the journal came or went
+pub record Shows (text : List ℕ) (before now : Streams) (disk disk_now : DiskState)
     (end : Result (Unit {0}) Fault) : Type 0 where
-  pub setting : Setting
-  pub accepted : ReadsAs files name (λ bytes. IsAccepted bytes setting)
-  pub run : RunsDesk setting before now disk disk_now faults faults_now end
+  pub writes : WritesText text before.taken now.taken before.write_faults now.write_faults end
+  pub keeps : Keeps disk disk_now
 
--- what a run with the configuration of this name comes to
-abbrev pub RunsFile : List ℕ → ShelfState → ShelfState → Streams → Streams
+-- what a command comes to at the desk that these entries open
+abbrev pub Does : Command → List (List ℕ) → Desk → Streams → Streams → DiskState → DiskState
+    → ℕ → ℕ → Result (Unit {0}) Fault → Type 0
+Does (run name) entries desk before now disk disk_now faults faults_now end =
+    RunsLines desk before now disk disk_now faults faults_now end
+Does (check name) entries desk before now disk disk_now faults faults_now end =
+    Shows (check_text (counts_of desk.serial.documents) (length entries)) before now disk disk_now
+    end
+
+-- the command is done at the desk that the entries of the disk open; and what the disk holds then
+-- opens again
+pub record IsDone (command : Command) (setting : Setting) (before now : Streams)
+    (disk disk_now : DiskState) (faults faults_now : ℕ) (end : Result (Unit {0}) Fault)
+    : Type 0 where
+  pub entries : List (List ℕ)
+  pub stand : HasEntries disk.content entries
+  pub desk : Desk
+  pub opened : opened_desk setting entries ≡ Ok desk
+  pub does : Does command entries desk before now disk disk_now faults faults_now end
+  pub again : ReplaysUnder setting disk_now.content
+
+-- ---- a top call
+
+-- what a command comes to under a configuration
+abbrev pub EndsUnder : Command → Setting → Streams → Streams → DiskState → DiskState → ℕ → ℕ
+    → Result (Unit {0}) Fault → Type 0
+EndsUnder command setting before now disk disk_now faults faults_now end =
+    StopsOpening setting before now disk disk_now faults faults_now end
+    ⊎ IsDone command setting before now disk disk_now faults faults_now end
+
+-- the configuration of this name is accepted, and the command comes to this under it
+pub record IsUnder (command : Command) (shelf : ShelfState) (before now : Streams)
+    (disk disk_now : DiskState) (faults faults_now : ℕ) (end : Result (Unit {0}) Fault)
+    : Type 0 where
+  pub setting : Setting
+  pub accepted : ReadsAs shelf.files (config_of command) (λ bytes. IsAccepted bytes setting)
+  pub ends : EndsUnder command setting before now disk disk_now faults faults_now end
+
+-- what the words come to: a fault of usage where they are no command
+abbrev pub EndsAs : Option Command → ShelfState → ShelfState → Streams → Streams
     → DiskState → DiskState → ℕ → ℕ → Result (Unit {0}) Fault → Type 0
-RunsFile name shelf shelf_now before now disk disk_now faults faults_now (Ok done) =
-    RunsUnder name shelf.files before now disk disk_now faults faults_now (Ok done)
-RunsFile name shelf shelf_now before now disk disk_now faults faults_now (Err Read) =
-    RunsUnder name shelf.files before now disk disk_now faults faults_now (Err Read)
-RunsFile name shelf shelf_now before now disk disk_now faults faults_now (Err Write) =
-    RunsUnder name shelf.files before now disk disk_now faults faults_now (Err Write)
-RunsFile name shelf shelf_now before now disk disk_now faults faults_now (Err InputTooLong) =
-    RunsUnder name shelf.files before now disk disk_now faults faults_now (Err InputTooLong)
-RunsFile name shelf shelf_now before now disk disk_now faults faults_now (Err NotAJournal) =
-    RunsUnder name shelf.files before now disk disk_now faults faults_now (Err NotAJournal)
-RunsFile name shelf shelf_now before now disk disk_now faults faults_now (Err (BadEntry place)) =
-    RunsUnder name shelf.files before now disk disk_now faults faults_now (Err (BadEntry place))
-RunsFile name shelf shelf_now before now disk disk_now faults faults_now (Err (Entry index)) =
-    RunsUnder name shelf.files before now disk disk_now faults faults_now (Err (Entry index))
-RunsFile name shelf shelf_now before now disk disk_now faults faults_now (Err Disk) =
-    RunsUnder name shelf.files before now disk disk_now faults faults_now (Err Disk)
-RunsFile name shelf shelf_now before now disk disk_now faults faults_now (Err Memory) =
-    StopsOpening before now disk disk_now
-    ⊎ RunsUnder name shelf.files before now disk disk_now faults faults_now (Err Memory)
-RunsFile name shelf shelf_now before now disk disk_now faults faults_now (Err File) =
-    Rose shelf.faults shelf_now.faults × KeepsOut before now
-RunsFile name shelf shelf_now before now disk disk_now faults faults_now (Err FileTooLong) =
-    IsLongFile shelf.files name × KeepsOut before now
-RunsFile name shelf shelf_now before now disk disk_now faults faults_now
-    (Err (Configuration fault)) =
-    ReadsAs shelf.files name (λ bytes. read_config bytes ≡ Err fault) × KeepsOut before now
-RunsFile name shelf shelf_now before now disk disk_now faults faults_now (Err (Rules fault)) =
-    ReadsAs shelf.files name (λ bytes. RefusesRules bytes fault) × KeepsOut before now
-RunsFile name shelf shelf_now before now disk disk_now faults faults_now (Err Usage) = ⊥
+EndsAs None shelf shelf_now before now disk disk_now faults faults_now end =
+    (end ≡ Err Usage) × KeepsOut before now
+EndsAs (Some command) shelf shelf_now before now disk disk_now faults faults_now end =
+    StopsBefore (config_of command) shelf shelf_now before now disk disk_now end
+    ⊎ IsUnder command shelf before now disk disk_now faults faults_now end
+
+-- what a top call comes to
+abbrev pub Ends : List (List ℕ) → ShelfState → ShelfState → Streams → Streams
+    → DiskState → DiskState → ℕ → ℕ → Result (Unit {0}) Fault → Type 0
+Ends words = EndsAs (command_of words)
 
 -- an end before the journal is opened leaves the disk untouched
 abbrev pub LeavesDisk : {D : Type 0} → Result (Unit {0}) Fault → D → D → Type 0
@@ -143,14 +182,6 @@ LeavesDisk (Err (BadEntry place)) disk disk_now = ⊤
 LeavesDisk (Err (Entry index)) disk disk_now = ⊤
 LeavesDisk (Err Disk) disk disk_now = ⊤
 
--- what a top call comes to: other words are a fault of usage, and `run` runs the file that it names
-abbrev pub Ends : List (List ℕ) → ShelfState → ShelfState → Streams → Streams
-    → DiskState → DiskState → ℕ → ℕ → Result (Unit {0}) Fault → Type 0
-Ends words shelf shelf_now before now disk disk_now faults faults_now end =
-    (AskNothing words × (end ≡ Err Usage) × KeepsOut before now)
-    ⊎ ((name : List ℕ) × IsRun words name
-    × RunsFile name shelf shelf_now before now disk disk_now faults faults_now end)
-
 -- a line was written whole, or a front of it where a write failed
 pub record WritesLine (line : List ℕ) (before now : Option (List ℕ))
     (faults faults_now : ℕ) : Type 0 where
@@ -163,54 +194,6 @@ Complains words (Ok done) before now faults faults_now = now ≡ before
 Complains words (Err fault) before now faults faults_now =
     WritesLine (fault_line words fault) before now faults faults_now
 
--- the words ask for a run with a file that holds this configuration, with rules that are accepted
-pub record HoldsConfig (words : List (List ℕ)) (shelf : ShelfState) (setting : Setting)
-    : Type 0 where
-  pub name : List ℕ
-  pub is_run : IsRun words name
-  pub all : List (List ℕ × List ℕ)
-  pub files : shelf.files ≡ Some all
-  pub bytes : List ℕ
-  pub read : file_read (file_named name all) most_config_bytes ≡ Ok bytes
-  pub accepted : IsAccepted bytes setting
-
--- first lines of the input were answered at the desk that the entries of a file open, the last of
--- them perhaps in part, and the laws hold among them
-pub record AnswersByLaws (setting : Setting) (content : Option (List ℕ)) (before now : Streams)
-    : Type 0 where
-  pub desk : Desk
-  pub opens : OpensAt setting content desk
-  pub lines : List Line
-  pub first : AreFirstLines lines before.left
-  pub count : ℕ
-  pub out : Appends before.taken now.taken (take count (answers_to desk lines))
-  pub laws : LawsHold desk lines
-
--- nothing was written, or the laws hold among what was answered
-abbrev pub KeepsLaws : Setting → Option (List ℕ) → Streams → Streams → Type 0
-KeepsLaws setting content before now =
-    KeepsOut before now ⊎ AnswersByLaws setting content before now
-
--- nothing stands in the way of a run of this input: the words, the file and the input are as they
--- should be, and no count rose
-pub record MayRun (words : List (List ℕ)) (shelf shelf_now : ShelfState) (before now : Streams)
-    (disk : DiskState) (faults faults_now : ℕ) (setting : Setting) (input file : List ℕ)
-    (desk : Desk) : Type 0 where
-  pub holds : HoldsConfig words shelf setting
-  pub input_is : before.left ≡ Some input
-  pub within : length input ≤ most_input_bytes
-  pub file_is : disk.content ≡ Some file
-  pub opens : OpensAt setting (Some file) desk
-  pub file_calls : ¬ Rose shelf.faults shelf_now.faults
-  pub reads : ¬ Rose before.read_faults now.read_faults
-  pub writes : ¬ Rose before.write_faults now.write_faults
-  pub disk_calls : ¬ Rose faults faults_now
-
--- then the status is 0 and the output grew by exactly the answers, or memory was refused
-abbrev pub Succeeds : Streams → Streams → Desk → List ℕ → ℕ → Type 0
-Succeeds before now desk input status =
-    ((status ≡ 0) × Appends before.taken now.taken (answers desk input)) ⊎ (status ≡ 4)
-
 -- a top call finished with this status: it is that of an end that has its cause, with its
 -- line; before the journal is opened the disk is not touched
 pub record Finishes {D : Type 0} (words : List (List ℕ)) (shelf shelf_now : ShelfState)
@@ -222,11 +205,3 @@ pub record Finishes {D : Type 0} (words : List (List ℕ)) (shelf shelf_now : Sh
       (disk_faults disk) (disk_faults disk_now) end
   pub untouched : LeavesDisk end disk disk_now
   pub complains : Complains words end err err_now err_faults err_faults_now
-
--- a run that may be made is made to its end
-abbrev pub RunsWhole : List (List ℕ) → ShelfState → ShelfState → Streams → Streams → DiskState
-    → ℕ → ℕ → ℕ → Type 0
-RunsWhole words shelf shelf_now before now disk faults faults_now status =
-    (setting : Setting) (input file : List ℕ) (desk : Desk)
-    → MayRun words shelf shelf_now before now disk faults faults_now setting input file desk
-    → Succeeds before now desk input status

@@ -1,9 +1,10 @@
 -- The desk that an input meets, and what is written for the bytes of one.
-use Rattle.std.specs.Prelude.{◌≡◌, ℕ, List, Option, Some, IfSome, Ok, Err}
+use Rattle.std.specs.Prelude.{◌≡◌, ℕ, List, Option, Some, IfSome, Ok, Err, option_map}
 use Rattle.reg_io.specs.Lines.{lines_of}
 use Rattle.post_journal.specs.Images.{entries_held, image_of}
-use Rattle.desk_model.specs.State.{Setting, Desk}
+use Rattle.desk_model.specs.State.{Setting, State, Desk}
 use Rattle.desk_model.specs.Answers.{answers_to}
+use Rattle.desk_history.specs.Replays.{replayed}
 use Rattle.desk_core.specs.Histories.{opened_desk}
 
 -- a file has these entries, where its bytes are told
@@ -16,6 +17,11 @@ pub record OpensAt (setting : Setting) (content : Option (List ℕ)) (desk : Des
   pub entries : List (List ℕ)
   pub stand : HasEntries content entries
   pub opened : opened_desk setting entries ≡ Ok desk
+
+-- the entries that a file holds replay, where its bytes are told
+abbrev pub ReplaysUnder : Setting → Option (List ℕ) → Type 0
+ReplaysUnder setting content = IfSome content (λ bytes. (state : State)
+    × (option_map (replayed setting) (entries_held (image_of bytes)) ≡ Some (Ok state)))
 
 -- the first entry of a file that can't be replayed has this index, from 1
 pub record StopsAtEntry (setting : Setting) (content : Option (List ℕ)) (index : ℕ)

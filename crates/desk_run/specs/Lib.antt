@@ -1,6 +1,10 @@
 pub mod AnsweredLines
+pub mod CheckTexts
 pub mod ConfigFiles
 pub mod Ends
 pub mod Inputs
+pub mod Promises
 pub mod Runs
 pub mod Statuses
+pub mod WordViews
+pub mod Words

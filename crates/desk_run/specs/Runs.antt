@@ -8,9 +8,9 @@ use Rattle.reg_base.specs.declared.line.Line.{Line}
 use Rattle.reg_io.specs.Disks.{DiskState}
 use Rattle.post_journal.specs.Journals.{Grows}
 use Rattle.desk_history.specs.Histories.{entries_to, line_entries}
-use Rattle.desk_core.specs.Histories.{ReplaysTo}
+use Rattle.desk_core.specs.Histories.{ReplaysTo, ReplaysToEither}
 use Rattle.desk_model.specs.State.{Desk}
-use Rattle.desk_model.specs.Answers.{line_answer, answers_to, desk_after}
+use Rattle.desk_model.specs.Answers.{line_answer, line_desk, answers_to, desk_after}
 use Rattle.desk_model.specs.Laws.{LawsHold}
 use Rattle.desk_run.specs.declared.run.RunEnd.{RunEnd}
 use Rattle.desk_run.specs.declared.run.RunEnd.TheVariants.{Memory, Disk, Read, Write, InputTooLong}
@@ -103,7 +103,8 @@ pub record StopsAtWrite (desk after : Desk) (before now : Streams)
   pub cause : Rose before.write_faults now.write_faults
 
 -- the disk failed: first lines were answered whole, and behind them the step of one line was cut
--- off, of whose answer nothing was written, and whose entry may be on the disk or not
+-- off, of whose answer nothing was written, and whose entry may be on the disk or not; what the
+-- disk holds replays to the desk before that line or behind it
 pub record StopsAtDisk (desk after : Desk) (before now : Streams) (disk disk_now : DiskState)
     (faults faults_now : ℕ) : Type 0 where
   pub lines : List Line
@@ -114,6 +115,7 @@ pub record StopsAtDisk (desk after : Desk) (before now : Streams) (disk disk_now
   pub desk_is : after ≡ desk_after desk lines
   pub grows : Grows disk disk_now (entries_to desk lines)
       (line_entries (desk_after desk lines) line)
+  pub replays : ReplaysToEither after (line_desk after line) disk_now.content
   pub cause : Rose faults faults_now
 
 -- the input passes its limit, and the whole lines within the limit were answered

@@ -3,12 +3,15 @@ ghost use Rattle.std.specs.Prelude.{◌≡◌};
 ghost use Rattle.desk_run.specs.Statuses.{status_of, end_status, file_fault, config_fault};
 ghost use Rattle.desk_run.specs.Statuses.{open_fault, replay_fault};
 ghost use Rattle.desk_run.specs.Statuses.{rules_fault, run_fault};
+ghost use Rattle.desk_run.specs.declared.fault.Fault.TheVariants.{Memory as MemoryFault};
+ghost use Rattle.desk_run.specs.declared.fault.Fault.TheVariants.{Write as WriteFault};
 
 use crate::run::RunEnd;
 use cfg_model::CfgFault;
 use desk_core::ReplayFault;
 use post_journal::OpenFault;
-use reg_io::ShelfFault;
+use reg_base::Memory;
+use reg_io::{ShelfFault, SinkFault};
 use rule_lang::RuleFault;
 
 /// Why a top call did not end well.
@@ -120,6 +123,22 @@ impl From<RunEnd> for Fault {
             RunEnd::Write => Fault::Write,
             RunEnd::InputTooLong => Fault::InputTooLong,
         }
+    }
+}
+
+impl From<Memory> for Fault {
+    ghost from_gives = { λ _ e. e ≡ MemoryFault };
+
+    fn from(_refused: Memory) -> Fault {
+        Fault::Memory
+    }
+}
+
+impl From<SinkFault> for Fault {
+    ghost from_gives = { λ _ e. e ≡ WriteFault };
+
+    fn from(_fault: SinkFault) -> Fault {
+        Fault::Write
     }
 }
 

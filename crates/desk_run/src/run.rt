@@ -65,8 +65,7 @@ fn answer_lines<D: Disk, S: Source, O: Sink>(
     lines: &mut Lines<S>,
     out: &mut O,
 ) -> Result<(), RunEnd>
-    requires fault { lines.old.fault ≡ None }
-    requires room { lines.old.room ≡ MOST_INPUT_BYTES }
+    requires fresh { (lines.old.fault ≡ None) × (lines.old.room ≡ MOST_INPUT_BYTES) }
     requires going { desk.old.stopped ≡ false }
     requires holds { Holds desk.old.desk journal.old (D.state disk.old) }
     ensures runs { Runs desk.old.desk desk.new.desk

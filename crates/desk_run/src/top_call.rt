@@ -1,18 +1,23 @@
 //! The top call: what the words ask, on the objects that are handed in.
-ghost use Rattle.std.specs.Prelude.{◌≡◌, ◌↔◌, map, string_bytes, IfOk};
+ghost use Rattle.std.specs.Prelude.{◌≡◌, ◌↔◌, None, map, string_bytes, IfOk};
+ghost use Rattle.cfg_model.specs.Limits.{IsWithinLimits};
 ghost use Rattle.desk_model.specs.State.{Setting};
 ghost use Rattle.desk_core.specs.Invariants.{AreFewStatements};
-ghost use Rattle.cfg_model.specs.Limits.{IsWithinLimits};
-ghost use Rattle.desk_run.specs.Ends.{AskNothing, Ends, Finishes, HoldsConfig, KeepsLaws};
-ghost use Rattle.desk_run.specs.Ends.{LeavesDisk, RunsDesk, RunsFile, RunsWhole};
 ghost use Rattle.desk_run.specs.ConfigFiles.{ReadsConfig, shelf_of};
+ghost use Rattle.desk_run.specs.Ends.{Ends, EndsUnder, Finishes, LeavesDisk};
+ghost use Rattle.desk_run.specs.Promises.{HoldsConfig, IsComplete, KeepsLaws, KeepsOrder};
 ghost use Rattle.desk_run.specs.Runs.{streams_of};
+ghost use Rattle.desk_run.specs.WordViews.{command_view};
+ghost use Rattle.desk_run.specs.Words.{Command as CommandOf, command_of as command_of_words};
 
+use crate::check::write_counts;
 use crate::complaint::complain;
 use crate::fault::{Fault, end_status};
 use crate::run::run_lines;
+use crate::words::{Command, command_of};
 use cfg_model::Config;
 use desk_core::Desk;
+use desk_history::numbers_rise_over_entries;
 use post_journal::Journal;
 use reg_io::{Disk, Shelf, Sink, Source};
 use rule_lang::{Rules, places_are_resolved};
@@ -52,10 +57,11 @@ pub fn desk_main<R: Threads + Sync, F: Shelf, D: Disk + Send, S: Source, O: Sink
         result.status }
 
     // Wrong words alone end with 2.
-    ensures words { (result.status ≡ 2) ↔ AskNothing (map (λ w. string_bytes w) words.now) }
+    ensures words { (result.status ≡ 2) ↔ (command_of_words (map (λ w. string_bytes w) words.now)
+        ≡ None) }
 
-    // Where nothing stands in the way, the whole input is answered.
-    ensures whole { RunsWhole (map (λ w. string_bytes w) words.now)
+    // Where nothing stands in the way, the command is done to its end.
+    ensures whole { IsComplete (map (λ w. string_bytes w) words.now)
         (shelf_of F.files F.faults shelf.old)
         (shelf_of F.files F.faults shelf.new)
         (streams_of S.left S.read_faults O.taken O.write_faults input.old out.old)
@@ -65,16 +71,24 @@ pub fn desk_main<R: Threads + Sync, F: Shelf, D: Disk + Send, S: Source, O: Sink
     // Of the lines that were answered under the file's configuration: each accepted balance is the
     // sum over the records at its place; the numbers of each clerk's requests rise; a repeated
     // request changes nothing, and is given the same reply while it is its clerk's last.
-    ensures laws { (setting : Setting)
+    ensures laws { (command : CommandOf) (setting : Setting)
         → HoldsConfig (map (λ w. string_bytes w) words.now)
-        (shelf_of F.files F.faults shelf.old) setting
-        → KeepsLaws setting (D.state disk).content
+        (shelf_of F.files F.faults shelf.old) command setting
+        → KeepsLaws command setting (D.state disk).content
         (streams_of S.left S.read_faults O.taken O.write_faults input.old out.old)
         (streams_of S.left S.read_faults O.taken O.write_faults input.new out.new) }
+
+    // Over all entries of the journal, those of earlier calls and those of this one, the numbers of
+    // each clerk's requests rise: so no request is in it twice.
+    ensures history { (command : CommandOf) (setting : Setting)
+        → HoldsConfig (map (λ w. string_bytes w) words.now)
+        (shelf_of F.files F.faults shelf.old) command setting
+        → KeepsOrder setting (D.state disk) (D.state result.disk) }
 {
     let _ = rt;
     let end = run_words(alloc, words, shelf, &mut disk, input, out);
     complain(words, &end, err);
+    numbers_rise_over_entries();
     Finish {
         status: end_status(&end),
         disk,
@@ -97,39 +111,17 @@ fn run_words<F: Shelf, D: Disk, S: Source, O: Sink>(
         (D.state disk.old) (D.state disk.new) (D.faults disk.old) (D.faults disk.new) result }
     ensures untouched { LeavesDisk result disk.old disk.new }
 {
-    match words {
-        [run, name] if run.as_str() == "run" => {
-            run_file(alloc, name.as_str(), shelf, disk, input, out)
-        }
-        _ => Err(Fault::Usage),
-    }
+    let Some(command) = command_of(words) else {
+        return Err(Fault::Usage);
+    };
+    let (config, rules) = read_config(alloc, command.config(), shelf)?;
+    run_command(alloc, command, config, rules, disk, input, out)
 }
 
-// Runs the lines of the input under the configuration of this name.
-fn run_file<F: Shelf, D: Disk, S: Source, O: Sink>(
+// Does what a command asks at the desk that the journal's entries open.
+fn run_command<D: Disk, S: Source, O: Sink>(
     alloc: Global,
-    name: &str,
-    shelf: &mut F,
-    disk: &mut D,
-    input: &mut S,
-    out: &mut O,
-) -> Result<(), Fault>
-    ensures runs { RunsFile name.now
-        (shelf_of F.files F.faults shelf.old)
-        (shelf_of F.files F.faults shelf.new)
-        (streams_of S.left S.read_faults O.taken O.write_faults input.old out.old)
-        (streams_of S.left S.read_faults O.taken O.write_faults input.new out.new)
-        (D.state disk.old) (D.state disk.new) (D.faults disk.old) (D.faults disk.new) result }
-    ensures untouched { LeavesDisk result disk.old disk.new }
-{
-    let (config, rules) = read_config(alloc, name, shelf)?;
-    run_config(alloc, config, rules, disk, input, out)?;
-    Ok(())
-}
-
-// Runs the lines of the input at the desk that the journal's entries open.
-fn run_config<D: Disk, S: Source, O: Sink>(
-    alloc: Global,
+    command: Command<'_>,
     config: Config,
     rules: Rules,
     disk: &mut D,
@@ -138,15 +130,20 @@ fn run_config<D: Disk, S: Source, O: Sink>(
 ) -> Result<(), Fault>
     requires limits { IsWithinLimits config }
     requires statements { AreFewStatements rules }
-    ensures runs { RunsDesk (record { config = config; rules = rules })
+    ensures ends { EndsUnder (command_view command.entry) (record { config = config; rules = rules })
         (streams_of S.left S.read_faults O.taken O.write_faults input.old out.old)
         (streams_of S.left S.read_faults O.taken O.write_faults input.new out.new)
         (D.state disk.old) (D.state disk.new) (D.faults disk.old) (D.faults disk.new) result }
 {
     let (mut journal, entries) = Journal::open(alloc, disk)?;
     let mut desk = Desk::open(alloc, config, rules, entries.as_slice())?;
-    run_lines(alloc, &mut desk, &mut journal, disk, input, out)?;
-    Ok(())
+    match command {
+        Command::Run { config: _ } => {
+            run_lines(alloc, &mut desk, &mut journal, disk, input, out)?;
+            Ok(())
+        }
+        Command::Check { config: _ } => write_counts(alloc, &desk, entries.len(), out),
+    }
 }
 
 // The configuration of this name, with its rules.

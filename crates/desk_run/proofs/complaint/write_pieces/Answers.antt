@@ -1,6 +1,6 @@
 use Rattle.std.proofs.Common.{Bor, List, ℕ, ◌++◌, ◌+◌, take, drop, sym, ap, ◌∙◌}
 use Rattle.std.specs.List.{flat_map}
-use Rattle.desk_run.proofs.RunLemmas.{is_fault}
+use Rattle.desk_core.proofs.ForAbove.{is_fault}
 use Rattle.desk_run.proofs.PieceLemmas.{flat_map-parts, AppendsPrefix-behind}
 use Rattle.desk_run.proofs.complaint.write_pieces.Goals as goal
 

@@ -1,15 +1,15 @@
 use Rattle.std.proofs.Common.{◌∙◌, arith, refl}
-use Rattle.desk_run.proofs.RunLemmas.{is_fault}
+use Rattle.desk_core.proofs.ForAbove.{is_fault}
 use Rattle.desk_run.proofs.RunEnds.{IsRunning-none, IsRunning-more, Runs-fault, Runs-answer}
 use Rattle.desk_run.proofs.RunEnds.{Runs-end}
 use Rattle.desk_run.proofs.run.answer_lines.Goals as goal
 
 pub answered-init : goal.answered-init
 answered-init g c = record {
-  running = IsRunning-none _ _ _ _ _ c.args.journal.now _ c.requires.room c.requires.holds;
+  running = IsRunning-none _ _ _ _ _ c.args.journal.now _ c.requires.fresh.1 c.requires.holds;
   going = c.requires.going;
   holds = c.requires.holds;
-  fault = c.requires.fault;
+  fault = c.requires.fresh.0;
   read_later = omega arith;
   write_later = omega arith;
   disk_later = omega arith;

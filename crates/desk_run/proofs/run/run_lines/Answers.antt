@@ -1,5 +1,5 @@
 use Rattle.std.proofs.Common.{rules}
-use Rattle.desk_run.proofs.RunLemmas.{is_fault}
+use Rattle.desk_core.proofs.ForAbove.{is_fault}
 use Rattle.desk_run.proofs.RunEnds.{Runs-none, Runs-first}
 use Rattle.desk_run.proofs.run.run_lines.Goals as goal
 
