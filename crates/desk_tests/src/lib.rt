@@ -15,3 +15,5 @@
 mod failing_tests;
 #[cfg(test)]
 mod shop;
+#[cfg(test)]
+mod stop_tests;

@@ -1,9 +1,9 @@
 //! Runs of a shop over objects in memory: what goes in, which calls fail, and what has to come out.
-use desk_run::desk_main;
+use desk_run::{Finish, desk_main};
 use reg_base::{List, Text};
 use reg_io::{
-    FailingCalls, FailingShelf, FailingSink, FailingSource, MemoryDisk, MemoryShelf, MemorySink,
-    MemorySource, Shelf, Sink, Source,
+    Disk, FailingCalls, FailingShelf, FailingSink, FailingSource, MemoryDisk, MemoryShelf,
+    MemorySink, MemorySource, Shelf, Sink, Source,
 };
 use std::alloc::{AllocError, Global};
 use std::thread::Threads;
@@ -81,7 +81,7 @@ impl From<AllocError> for Difference {
     }
 }
 
-fn calls(alloc: Global, number: u64) -> Result<FailingCalls, AllocError> {
+pub(crate) fn calls(alloc: Global, number: u64) -> Result<FailingCalls, AllocError> {
     Ok(FailingCalls::new(List::from_slice(alloc, &[number])?))
 }
 
@@ -116,9 +116,9 @@ fn sink(alloc: Global, piece: usize, failing: u64) -> Result<FailingSink, AllocE
     Ok(FailingSink::new(MemorySink::new(alloc, piece.max(1)), calls))
 }
 
-fn words(alloc: Global) -> Result<Vec<String>, AllocError> {
+fn words(alloc: Global, command: &str) -> Result<Vec<String>, AllocError> {
     let mut words = Vec::new(alloc);
-    for word in ["run", "shop.toml"] {
+    for word in [command, "shop.toml"] {
         words.push(String::from_str(alloc, word)?)?;
     }
     Ok(words)
@@ -153,6 +153,40 @@ fn run_on<R: Threads + Sync, F: Shelf, S: Source, O: Sink, E: Sink>(
     desk_main(rt, alloc, words, shelf, disk, input, out, err).status
 }
 
+// What a command over a disk leaves.
+#[derive(Drop)]
+pub(crate) struct Left<D> {
+    pub(crate) status: u8,
+    pub(crate) out: MemorySink,
+    pub(crate) disk: D,
+}
+
+// What a command of the shop leaves over a disk.
+pub(crate) fn command_over<R: Threads + Sync, D: Disk + Send + Drop>(
+    rt: &R,
+    alloc: Global,
+    command: &str,
+    input: &str,
+    disk: D,
+) -> Result<Left<D>, AllocError> {
+    let words = words(alloc, command)?;
+    let mut shelf = MemoryShelf::new(files(alloc, SHOP)?);
+    let mut source = MemorySource::new(List::from_slice(alloc, input.as_bytes())?, 64);
+    let mut out = MemorySink::new(alloc, 64);
+    let mut err = MemorySink::new(alloc, 64);
+    let Finish { status, disk } = desk_main(
+        rt,
+        alloc,
+        words.as_slice(),
+        &mut shelf,
+        disk,
+        &mut source,
+        &mut out,
+        &mut err,
+    );
+    Ok(Left { status, out, disk })
+}
+
 // The status of a run of what is given, from this shelf.
 fn run_from<R: Threads + Sync>(
     rt: &R,
@@ -162,7 +196,7 @@ fn run_from<R: Threads + Sync>(
     outputs: &mut Outputs,
 ) -> Result<u8, AllocError> {
     let [_, read, _, _] = given.numbers();
-    let words = words(alloc)?;
+    let words = words(alloc, "run")?;
     let mut input = source(alloc, given, read)?;
     let Outputs { out, err } = outputs;
     Ok(run_on(rt, alloc, words.as_slice(), shelf, &mut input, out, err))
