@@ -1,0 +1,9 @@
+pub mod Cells
+pub mod Columns
+pub mod Faults
+pub mod Files
+pub mod Groups
+pub mod Places
+pub mod Reading
+pub mod Requests
+pub mod Standing
