@@ -1,0 +1,6 @@
+mod CountLemmas
+mod EndLemmas
+mod GroupLemmas
+mod LineLemmas
+mod PostingLemmas
+mod WorkedRows

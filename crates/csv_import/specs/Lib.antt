@@ -1,0 +1,3 @@
+pub mod ImportEnds
+pub mod Imports
+pub mod Posting
