@@ -21,12 +21,13 @@ use Rattle.desk_run.specs.declared.run.RunEnd.TheVariants.{Memory as RunMemory, 
 use Rattle.desk_run.specs.declared.run.RunEnd.TheVariants.{Write as RunWrite, Disk as RunDisk}
 use Rattle.desk_run.specs.declared.run.RunEnd.TheVariants.{InputTooLong as RunTooLong}
 use Rattle.desk_run.specs.declared.fault.Fault.{Fault}
-use Rattle.desk_run.specs.ConfigFiles.{ShelfState}
-use Rattle.desk_run.specs.Ends.{Ends, EndsAs, EndsUnder, IsDone, KeepsOut}
+use Rattle.desk_run.specs.Ends.{Ends, EndsAs, EndsUnder, IsDone}
+use Rattle.desk_run.specs.Files.{IsJob, Job, ShelfState, answer_lines}
 use Rattle.desk_run.specs.Inputs.{OpensAt, ReplaysUnder}
 use Rattle.desk_run.specs.Promises.{AnswersByLaws, HistoryRises, HoldsConfig, KeepsLaws, KeepsOrder}
 use Rattle.desk_run.specs.Runs.{AreFirstLines, Runs, Streams, StopsAtWrite}
-use Rattle.desk_run.specs.Words.{Command, check, run}
+use Rattle.desk_run.specs.Texts.{KeepsOut}
+use Rattle.desk_run.specs.Words.{Call, Task, check, import, report, run}
 use Rattle.desk_run.proofs.Completeness.{held_config}
 use Rattle.desk_run.proofs.Opened.{again_opened}
 use Rattle.desk_run.proofs.RunLemmas.{answers_to-more}
@@ -123,52 +124,64 @@ kept_order rises setting disk disk_now desk opens keeps = order_of rises setting
 
 module _ (setting : Setting) (before now : Streams) (disk disk_now : DiskState) (f f_now : ℕ)
     (end : Result (Unit {0}) Fault) where
-  -- at the desk that the journal opens
-  done_laws : (command : Command) → IsDone command setting before now disk disk_now f f_now end
-      → KeepsLaws command setting disk.content before now
-  done_laws (run name) done = inr (run_laws setting disk.content done.desk done.does.after before
-      now disk disk_now f f_now done.does.run_end
+  -- lines at the desk that the journal opens
+  lines_laws : IsDone answer_lines setting before now disk disk_now f f_now end
+      → AnswersByLaws setting disk.content before now
+  lines_laws done = run_laws setting disk.content done.desk done.does.after before now disk disk_now
+      f f_now done.does.run_end
       (record { entries = done.entries; stand = done.stand; opened = done.opened })
-      done.does.runs)
-  done_laws (check name) done = tt
+      done.does.runs
 
   -- where nothing was written
-  silent_laws : (command : Command) → KeepsOut before now
-      → KeepsLaws command setting disk.content before now
-  silent_laws (run name) out = inl out
-  silent_laws (check name) out = tt
+  silent_laws : (task : Task) → KeepsOut before now
+      → KeepsLaws task setting disk.content before now
+  silent_laws run out = inl out
+  silent_laws check out = tt
+  silent_laws (report words) out = tt
+  silent_laws (import name) out = tt
 
-  under_laws : (command : Command) → EndsUnder command setting before now disk disk_now f f_now end
-      → KeepsLaws command setting disk.content before now
-  under_laws command (inl stops) = silent_laws command stops.nothing.out
-  under_laws command (inr done) = done_laws command done
+  -- at the desk that the journal opens
+  done_laws : (files : Option (List (List ℕ × List ℕ))) (task : Task) (job : Job)
+      → IsJob files task job → IsDone job setting before now disk disk_now f f_now end
+      → KeepsLaws task setting disk.content before now
+  done_laws files run job is done = inr (lines_laws (rw is at done))
+  done_laws files check job is done = tt
+  done_laws files (report words) job is done = tt
+  done_laws files (import name) job is done = tt
+
+  under_laws : (files : Option (List (List ℕ × List ℕ))) (task : Task) (job : Job)
+      → IsJob files task job → EndsUnder job setting before now disk disk_now f f_now end
+      → KeepsLaws task setting disk.content before now
+  under_laws files task job is (inl stops) = silent_laws task stops.nothing.out
+  under_laws files task job is (inr done) = done_laws files task job is done
 
   -- what a call leaves of the journal's order
   under_order : (rises : (setting : Setting) (entries : List (List ℕ)) (state : State)
-      → replayed setting entries ≡ Ok state → EntriesRise setting entries) (command : Command)
-      → EndsUnder command setting before now disk disk_now f f_now end
+      → replayed setting entries ≡ Ok state → EntriesRise setting entries) (job : Job)
+      → EndsUnder job setting before now disk disk_now f f_now end
       → KeepsOrder setting disk disk_now
-  under_order rises command (inl stops) desk opens =
+  under_order rises job (inl stops) desk opens =
       kept_order rises setting disk disk_now desk opens stops.nothing.keeps
-  under_order rises command (inr done) desk opens =
+  under_order rises job (inr done) desk opens =
       order_of rises setting disk_now.content done.again
 
 -- what a call answered under the configuration that its file holds
 pub call_laws : (words : List (List ℕ)) (shelf shelf_now : ShelfState) (before now : Streams)
     (disk disk_now : DiskState) (f f_now : ℕ) (end : Result (Unit {0}) Fault)
     → Ends words shelf shelf_now before now disk disk_now f f_now end
-    → (command : Command) (setting : Setting) → HoldsConfig words shelf command setting
-    → KeepsLaws command setting disk.content before now
-call_laws words shelf shelf_now before now disk disk_now f f_now end ends command setting holds =
+    → (call : Call) (setting : Setting) → HoldsConfig words shelf call setting
+    → KeepsLaws call.task setting disk.content before now
+call_laws words shelf shelf_now before now disk disk_now f f_now end ends call setting holds =
     at (rw holds.asked at ends)
   where
-    at : EndsAs (Some command) shelf shelf_now before now disk disk_now f f_now end
-        → KeepsLaws command setting disk.content before now
-    at (inl stops) = silent_laws setting before now disk disk_now f f_now end command
+    at : EndsAs (Some call) shelf shelf_now before now disk disk_now f f_now end
+        → KeepsLaws call.task setting disk.content before now
+    at (inl stops) = silent_laws setting before now disk disk_now f f_now end call.task
         stops.nothing.out
-    at (inr under) = under_laws setting before now disk disk_now f f_now end command
-        (rw (held_config words shelf command setting holds under.setting under.accepted)
-        at under.ends)
+    at (inr under) = under_laws setting before now disk disk_now f f_now end shelf.files call.task
+        under.job under.set_up.read.asked
+        (rw (held_config words shelf call setting holds under.setting under.set_up.bytes
+        under.set_up.read.has under.set_up.accepted) at under.ends)
 
 -- and what it leaves of the journal's order
 pub call_order : ((setting : Setting) (entries : List (List ℕ)) (state : State)
@@ -176,14 +189,14 @@ pub call_order : ((setting : Setting) (entries : List (List ℕ)) (state : State
     → (words : List (List ℕ)) (shelf shelf_now : ShelfState) (before now : Streams)
     (disk disk_now : DiskState) (f f_now : ℕ) (end : Result (Unit {0}) Fault)
     → Ends words shelf shelf_now before now disk disk_now f f_now end
-    → (command : Command) (setting : Setting) → HoldsConfig words shelf command setting
+    → (call : Call) (setting : Setting) → HoldsConfig words shelf call setting
     → KeepsOrder setting disk disk_now
-call_order rises words shelf shelf_now before now disk disk_now f f_now end ends command setting
-    holds desk opens = at (rw holds.asked at ends)
+call_order rises words shelf shelf_now before now disk disk_now f f_now end ends call setting holds
+    desk opens = at (rw holds.asked at ends)
   where
-    at : EndsAs (Some command) shelf shelf_now before now disk disk_now f f_now end
+    at : EndsAs (Some call) shelf shelf_now before now disk disk_now f f_now end
         → HistoryRises setting disk_now.content
     at (inl stops) = kept_order rises setting disk disk_now desk opens stops.nothing.keeps
-    at (inr under) = under_order setting before now disk disk_now f f_now end rises command
-        (rw (held_config words shelf command setting holds under.setting under.accepted)
-        at under.ends) desk opens
+    at (inr under) = under_order setting before now disk disk_now f f_now end rises under.job
+        (rw (held_config words shelf call setting holds under.setting under.set_up.bytes
+        under.set_up.read.has under.set_up.accepted) at under.ends) desk opens

@@ -3,6 +3,8 @@ pub mod RunLemmas
 pub mod RuleLemmas
 pub mod RunEnds
 pub mod Opened
+pub mod ImportLemmas
+pub mod ReportLemmas
 pub mod CallEnds
 pub mod Completeness
 pub mod AnsweredLaws

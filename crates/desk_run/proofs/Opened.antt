@@ -23,7 +23,7 @@ use Rattle.desk_run.specs.Runs.{AnswersLines, CommitsLines, Runs, Streams}
 -- ---- what an opened desk is
 
 -- what the desk that entries open is made of
-record IsOpened (setting : Setting) (entries : List (List ℕ)) (desk : Desk) : Type 0 where
+pub record IsOpened (setting : Setting) (entries : List (List ℕ)) (desk : Desk) : Type 0 where
   pub replays : replayed setting entries ≡ Ok desk.serial
   pub setting_is : desk.setting ≡ setting
   pub long : desk.journal ≡ journal_length entries
@@ -40,7 +40,7 @@ opened_by (Ok state) setting journal desk e =
       sym (ap (λ (d : Desk). d.journal) same),
     )
 
-opened_parts : (setting : Setting) (entries : List (List ℕ)) (desk : Desk)
+pub opened_parts : (setting : Setting) (entries : List (List ℕ)) (desk : Desk)
     → opened_desk setting entries ≡ Ok desk → IsOpened setting entries desk
 opened_parts setting entries desk e =
     let parts = opened_by (replayed setting entries) setting (journal_length entries) desk e in
@@ -57,7 +57,7 @@ replays_opened (Some file) (Some bytes) entries desk told shown has replays =
     ∙ ap Some (append-nil entries)) ∙ ap Some replays
 
 -- what replays to a desk of this setting replays under it
-replays_under : (setting : Setting) (desk : Desk) (content : Option (List ℕ))
+pub replays_under : (setting : Setting) (desk : Desk) (content : Option (List ℕ))
     → desk.setting ≡ setting → ReplaysTo desk content → ReplaysUnder setting content
 replays_under setting desk None is so = tt
 replays_under setting desk (Some bytes) is so = (

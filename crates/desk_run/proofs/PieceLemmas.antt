@@ -1,7 +1,7 @@
 -- A text that is written piece by piece.
 use Rattle.std.proofs.Common.{◌≡◌, ℕ, ◌+◌, ◌<◌, ◌≤◌, List, [], ◌∷◌, ◌++◌, length, take, drop}
 use Rattle.std.proofs.Common.{get_or, Option, sym, ap, ◌∙◌, arith, append_assoc, append-nil}
-use Rattle.std.proofs.Common.{length-append, take-suc, add-one, take-append-drop}
+use Rattle.std.proofs.Common.{length-append, take-suc, add-one, take-append-drop, inl, inr, ◌⊎◌}
 use Rattle.std.specs.List.{flat_map}
 use Rattle.std.proofs.lemmas.Grind.{flat_map-append}
 use Rattle.std.proofs.Math.Seq.{take-append-add}
@@ -10,10 +10,12 @@ use Rattle.std.specs.Io.KnownBytes.{Appends}
 use Rattle.std.proofs.KnownBytes.{Appends-trans}
 use Rattle.std.specs.Prelude.{codes}
 use Rattle.reg_base.specs.Numbers.{number_text}
-use Rattle.reg_io.specs.Counts.{AppendsPrefix}
+use Rattle.reg_io.specs.Counts.{AppendsPrefix, Rose}
 use Rattle.cfg_model.specs.FaultTexts.{count_text}
 use Rattle.rule_lang.specs.FaultTexts.{words}
-use Rattle.desk_run.specs.Statuses.{program_line}
+use Rattle.csv_groups.specs.Faults.{row_why_name, row_why_number}
+use Rattle.csv_groups.specs.declared.fault.RowWhy.{RowWhy}
+use Rattle.desk_run.specs.FaultLines.{column_told, program_line, row_line, row_words}
 use Rattle.desk_run.specs.Ends.{WritesLine}
 
 -- the pieces up to one more
@@ -55,6 +57,31 @@ AppendsPrefix-behind a b c front piece rest all e before part =
       rw same (Appends-trans a b c _ _ before part.2),
     )
 
+-- a front of the first piece is a front of all
+pub AppendsPrefix-first : (a b : Option (List ℕ)) (piece rest : List ℕ) → AppendsPrefix a b piece
+    → AppendsPrefix a b (piece ++ rest)
+AppendsPrefix-first a b piece rest part =
+    let short : part.0 ≤ length piece = omega (arith, part.1) in (
+      part.0,
+      omega (arith, part.1, length-append piece rest),
+      rw (take-append-le part.0 piece rest short) part.2,
+    )
+
+-- a line behind what was written
+pub WritesLine-behind : (a b c : Option (List ℕ)) (front line : List ℕ) (w w_mid w_now : ℕ)
+    → Appends a b front → w ≤ w_mid → WritesLine line b c w_mid w_now
+    → WritesLine (front ++ line) a c w w_now
+WritesLine-behind a b c front line w w_mid w_now before later writes = record { out = at writes.out }
+  where
+    at : Appends b c line ⊎ (AppendsPrefix b c line × Rose w_mid w_now)
+        → Appends a c (front ++ line) ⊎ (AppendsPrefix a c (front ++ line) × Rose w w_now)
+    at (inl whole) = inl (Appends-trans a b c front line before whole)
+    at (inr part) = inr (
+      AppendsPrefix-behind a b c front line [] (front ++ line) (sym (append-nil (front ++ line)))
+          before part.0,
+      omega (arith, later, part.1),
+    )
+
 -- a line that is written is the same by another spelling of it
 pub WritesLine-is : {line other : List ℕ} {before now : Option (List ℕ)} {faults faults_now : ℕ}
     → line ≡ other → WritesLine line before now faults faults_now
@@ -94,3 +121,14 @@ journal_line front digits number e =
     ap (λ l. codes "regdesk: journal: " ++ l)
     (ap (λ d. front ++ (d ++ (codes "\n" ++ []))) e
     ∙ sym (append_assoc front (number_text number) (10 ∷ [])))
+
+-- the words of the line of a row
+pub row_written : (row : ℕ) (why : RowWhy) (digits number name : List ℕ)
+    (column : Option (List ℕ)) (n : ℕ) (before now : Option (List ℕ)) (faults faults_now : ℕ)
+    → digits ≡ number_text row → number ≡ number_text n → n ≡ row_why_number why
+    → name ≡ row_why_name why → column ≡ column_told why
+    → WritesLine (row_words digits number name column) before now faults faults_now
+    → WritesLine (row_line row why) before now faults faults_now
+row_written row why digits number name column n before now faults faults_now a b m d e writes =
+    WritesLine-is {line = row_words digits number name column} {other = row_line row why}
+    (λ i. row_words (a i) ((b ∙ ap number_text m) i) (d i) (e i)) writes

@@ -1,10 +1,15 @@
 pub mod AnsweredLines
 pub mod CheckTexts
-pub mod ConfigFiles
 pub mod Ends
+pub mod FaultLines
+pub mod Files
+pub mod Imports
 pub mod Inputs
 pub mod Promises
 pub mod Runs
+pub mod Setups
 pub mod Statuses
+pub mod Steps
+pub mod Texts
 pub mod WordViews
 pub mod Words

@@ -1,6 +1,7 @@
 -- What a top call promises of its whole: where nothing stands in its way it is done, and the laws
 -- hold among what it answered and over the entries of its journal.
-use Rattle.std.specs.Prelude.{◌≡◌, ◌⊎◌, ⊤, ℕ, ◌≤◌, List, length, take, Option, Some, IfSome, Ok}
+use Rattle.std.specs.Prelude.{◌≡◌, ◌⊎◌, ⊤, ℕ, ◌≤◌, List, length, take, Option, Some, IfSome}
+use Rattle.std.specs.Prelude.{Result, Ok, Err}
 use Rattle.std.specs.Io.KnownBytes.{Appends}
 use Rattle.reg_base.specs.declared.line.Line.{Line}
 use Rattle.reg_io.specs.Counts.{Rose}
@@ -13,32 +14,40 @@ use Rattle.desk_model.specs.Laws.{LawsHold}
 use Rattle.desk_history.specs.ClerkOrder.{EntriesRise}
 use Rattle.desk_core.specs.Counts.{counts_of}
 use Rattle.desk_core.specs.Histories.{opened_desk}
+use Rattle.desk_reports.specs.Reports.{report_of}
+use Rattle.desk_words.specs.declared.reply.Refusal.{Refusal}
+use Rattle.csv_groups.specs.Files.{read_file}
+use Rattle.csv_groups.specs.declared.fault.RowFault.{RowFault}
+use Rattle.csv_groups.specs.declared.group.Group.{Group}
+use Rattle.csv_import.specs.Imports.{import_text}
 use Rattle.desk_run.specs.CheckTexts.{check_text}
-use Rattle.desk_run.specs.ConfigFiles.{IsAccepted, ShelfState, most_config_bytes}
-use Rattle.desk_run.specs.Ends.{KeepsOut}
+use Rattle.desk_run.specs.Files.{IsAccepted, IsJob, Job, ShelfState, answer_lines, count_books}
+use Rattle.desk_run.specs.Files.{make_report, most_config_bytes, post_documents}
 use Rattle.desk_run.specs.Inputs.{OpensAt, answers}
 use Rattle.desk_run.specs.Runs.{AreFirstLines, Streams, most_input_bytes}
-use Rattle.desk_run.specs.Words.{Command, check, command_of, config_of, run}
+use Rattle.desk_run.specs.Texts.{KeepsOut}
+use Rattle.desk_run.specs.Words.{Call, Task, call_of, check, import, report, run}
 
--- the words ask for what is done at a desk, and the file that they name holds this configuration,
--- with rules that are accepted
-pub record HoldsConfig (words : List (List ℕ)) (shelf : ShelfState) (command : Command)
+-- the words ask for something, and the file that they name first holds this configuration, with
+-- rules that are accepted
+pub record HoldsConfig (words : List (List ℕ)) (shelf : ShelfState) (call : Call)
     (setting : Setting) : Type 0 where
-  pub asked : command_of words ≡ Some command
+  pub asked : call_of words ≡ Some call
   pub all : List (List ℕ × List ℕ)
   pub files : shelf.files ≡ Some all
   pub bytes : List ℕ
-  pub read : file_read (file_named (config_of command) all) most_config_bytes ≡ Ok bytes
+  pub read : file_read (file_named call.config all) most_config_bytes ≡ Ok bytes
   pub accepted : IsAccepted bytes setting
 
--- ---- a command is done to its end
+-- ---- a job is done to its end
 
--- nothing stands in the way of a command: the file that the words name and the disk are as they
--- should be, and neither has a call that failed, nor has the output
+-- nothing stands in the way of a job: the files that the words name and the disk are as they should
+-- be, and neither has a call that failed, nor has the output
 pub record MayDo (words : List (List ℕ)) (shelf shelf_now : ShelfState) (before now : Streams)
-    (disk : DiskState) (faults faults_now : ℕ) (command : Command) (setting : Setting)
+    (disk : DiskState) (faults faults_now : ℕ) (call : Call) (job : Job) (setting : Setting)
     (entries : List (List ℕ)) (desk : Desk) : Type 0 where
-  pub holds : HoldsConfig words shelf command setting
+  pub holds : HoldsConfig words shelf call setting
+  pub job_is : IsJob shelf.files call.task job
   pub file : List ℕ
   pub file_is : disk.content ≡ Some file
   pub stand : entries_held (image_of file) ≡ Some entries
@@ -52,23 +61,38 @@ abbrev pub WritesWhole : List ℕ → Streams → Streams → ℕ → Type 0
 WritesWhole text before now status =
     ((status ≡ 0) × Appends before.taken now.taken text) ⊎ (status ≡ 4)
 
--- what a command that may be done has done: `run` has answered an input whose bytes are told and
--- within their limit, where no read failed; `check` has written its counts
-abbrev pub HasDone : Command → List (List ℕ) → Desk → Streams → Streams → ℕ → Type 0
-HasDone (run name) entries desk before now status =
+-- a report is written whole, or its refusal has status 12
+abbrev pub ReportsWhole : Result (List ℕ) Refusal → Streams → Streams → ℕ → Type 0
+ReportsWhole (Ok text) before now status = WritesWhole text before now status
+ReportsWhole (Err refusal) before now status = (status ≡ 12) ⊎ (status ≡ 4)
+
+-- all groups of a file are posted, or its fault has status 10
+abbrev pub ImportsWhole : Result (List Group) RowFault → Desk → Streams → Streams → ℕ → Type 0
+ImportsWhole (Ok groups) desk before now status =
+    WritesWhole (import_text desk groups) before now status
+ImportsWhole (Err fault) desk before now status = (status ≡ 10) ⊎ (status ≡ 4)
+
+-- what a job that may be done has done: an input whose bytes are told and within their limit is
+-- answered, where no read failed; counts, a report or the lines of an import are written
+abbrev pub HasDone : Job → List (List ℕ) → Desk → Streams → Streams → ℕ → Type 0
+HasDone answer_lines entries desk before now status =
     (input : List ℕ) → before.left ≡ Some input → length input ≤ most_input_bytes
     → ¬ Rose before.read_faults now.read_faults
     → WritesWhole (answers desk input) before now status
-HasDone (check name) entries desk before now status =
+HasDone count_books entries desk before now status =
     WritesWhole (check_text (counts_of desk.serial.documents) (length entries)) before now status
+HasDone (make_report words) entries desk before now status =
+    ReportsWhole (report_of desk words) before now status
+HasDone (post_documents bytes) entries desk before now status =
+    ImportsWhole (read_file desk.setting.config bytes) desk before now status
 
--- a command that may be done is done
+-- a job that may be done is done
 abbrev pub IsComplete : List (List ℕ) → ShelfState → ShelfState → Streams → Streams → DiskState
     → ℕ → ℕ → ℕ → Type 0
 IsComplete words shelf shelf_now before now disk faults faults_now status =
-    (command : Command) (setting : Setting) (entries : List (List ℕ)) (desk : Desk)
-    → MayDo words shelf shelf_now before now disk faults faults_now command setting entries desk
-    → HasDone command entries desk before now status
+    (call : Call) (job : Job) (setting : Setting) (entries : List (List ℕ)) (desk : Desk)
+    → MayDo words shelf shelf_now before now disk faults faults_now call job setting entries desk
+    → HasDone job entries desk before now status
 
 -- ---- laws
 
@@ -85,10 +109,12 @@ pub record AnswersByLaws (setting : Setting) (content : Option (List ℕ)) (befo
   pub laws : LawsHold desk lines
 
 -- of a call that runs lines nothing was written, or the laws hold among what was answered
-abbrev pub KeepsLaws : Command → Setting → Option (List ℕ) → Streams → Streams → Type 0
-KeepsLaws (run name) setting content before now =
+abbrev pub KeepsLaws : Task → Setting → Option (List ℕ) → Streams → Streams → Type 0
+KeepsLaws run setting content before now =
     KeepsOut before now ⊎ AnswersByLaws setting content before now
-KeepsLaws (check name) setting content before now = ⊤
+KeepsLaws check setting content before now = ⊤
+KeepsLaws (report words) setting content before now = ⊤
+KeepsLaws (import name) setting content before now = ⊤
 
 -- over the entries that a file holds, where its bytes are told, the numbers of each clerk rise
 abbrev pub HistoryRises : Setting → Option (List ℕ) → Type 0

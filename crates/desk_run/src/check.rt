@@ -2,9 +2,9 @@
 ghost use Rattle.std.specs.Prelude.{◌≡◌, IfOk, string_bytes};
 ghost use Rattle.desk_core.specs.Counts.{counts_of};
 ghost use Rattle.desk_run.specs.CheckTexts.{check_text as text_of_check};
-ghost use Rattle.desk_run.specs.Ends.{WritesText};
+ghost use Rattle.desk_run.specs.Texts.{WritesText};
 
-use crate::fault::Fault;
+use crate::fault::TextFault;
 use desk_core::{Counts, Desk};
 use reg_base::Memory;
 use reg_io::{Sink, write_all};
@@ -17,7 +17,7 @@ pub(crate) fn write_counts<O: Sink>(
     desk: &Desk,
     entries: usize,
     out: &mut O,
-) -> Result<(), Fault>
+) -> Result<(), TextFault>
     ensures { WritesText (text_of_check (counts_of desk.now.desk.serial.documents) entries)
         (O.taken out.old) (O.taken out.new) (O.write_faults out.old) (O.write_faults out.new)
         result }
@@ -52,7 +52,7 @@ fn check_text(
 }
 
 // Writes a text in one call.
-pub(crate) fn write_text<O: Sink>(out: &mut O, text: &[u8]) -> Result<(), Fault>
+pub(crate) fn write_text<O: Sink>(out: &mut O, text: &[u8]) -> Result<(), TextFault>
     ensures { WritesText text.now (O.taken out.old) (O.taken out.new) (O.write_faults out.old)
         (O.write_faults out.new) result }
 {

@@ -15,12 +15,16 @@
 mod check;
 mod complaint;
 mod fault;
+mod files;
+mod import;
+mod report;
 mod run;
 mod top_call;
 mod words;
 
 pub use complaint::complain;
-pub use fault::{Fault, end_status};
+pub use fault::{Fault, JobFault, NamedFile, OpeningFault, SetupFault, TextFault, end_status};
+pub use files::{Job, MOST_CONFIG_BYTES, MOST_IMPORT_BYTES};
 pub use run::{MOST_INPUT_BYTES, RunEnd, run_lines};
-pub use top_call::{Finish, MOST_CONFIG_BYTES, desk_main};
-pub use words::{Command, command_of};
+pub use top_call::{Finish, desk_main};
+pub use words::{Call, Task, call_of};

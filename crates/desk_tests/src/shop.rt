@@ -9,7 +9,13 @@ use std::alloc::{AllocError, Global};
 use std::thread::Threads;
 
 pub(crate) const SHOP: &str = "[register.goods]\nkind = \"balance\"\ndimensions = [\"item:code\"]\n\
-resources = [\"quantity:3\", \"amount:2\"]\n\n[clerk.anna]\nrights = [\"manual\", \"read\"]\n";
+resources = [\"quantity:3\", \"amount:2\"]\n\n[document.fill]\nhead = []\nlines = [\"quantity:3\"]\n\
+rules = 'each line receipt goods(item = \"nail\"; quantity = line.quantity);'\n\n\
+[clerk.anna]\nrights = [\"manual\", \"read\"]\n";
+
+// Three documents of no quantity, and so without records.
+pub(crate) const ROWS: &str = "key,kind,date,line.quantity\na,fill,2024-01-10,0\n\
+b,fill,2024-01-10,0\nc,fill,2024-01-10,0\n";
 
 pub(crate) const RECEIPT: &str = "{\"clerk\":\"anna\",\"date\":\"2024-01-10T09:00:00\",\"no\":1,\
 \"op\":\"manual\",\"sets\":[{\"records\":[{\"kind\":\"receipt\",\
@@ -87,14 +93,14 @@ pub(crate) fn calls(alloc: Global, number: u64) -> Result<FailingCalls, AllocErr
 
 fn files(alloc: Global, config: &str) -> Result<List<(Text, List<u8>)>, AllocError> {
     let mut files = List::new(alloc);
-    let file = file(alloc, config)?;
-    files.push(file)?;
+    files.push(file(alloc, "shop.toml", config)?)?;
+    files.push(file(alloc, "rows.csv", ROWS)?)?;
     Ok(files)
 }
 
-fn file(alloc: Global, config: &str) -> Result<(Text, List<u8>), AllocError> {
-    let name = Text::from_str(alloc, "shop.toml")?;
-    let bytes = List::from_slice(alloc, config.as_bytes())?;
+fn file(alloc: Global, name: &str, text: &str) -> Result<(Text, List<u8>), AllocError> {
+    let name = Text::from_str(alloc, name)?;
+    let bytes = List::from_slice(alloc, text.as_bytes())?;
     Ok((name, bytes))
 }
 
@@ -116,9 +122,9 @@ fn sink(alloc: Global, piece: usize, failing: u64) -> Result<FailingSink, AllocE
     Ok(FailingSink::new(MemorySink::new(alloc, piece.max(1)), calls))
 }
 
-fn words(alloc: Global, command: &str) -> Result<Vec<String>, AllocError> {
+fn words(alloc: Global, all: &[&str]) -> Result<Vec<String>, AllocError> {
     let mut words = Vec::new(alloc);
-    for word in [command, "shop.toml"] {
+    for word in all {
         words.push(String::from_str(alloc, word)?)?;
     }
     Ok(words)
@@ -153,7 +159,7 @@ fn run_on<R: Threads + Sync, F: Shelf, S: Source, O: Sink, E: Sink>(
     desk_main(rt, alloc, words, shelf, disk, input, out, err).status
 }
 
-// What a command over a disk leaves.
+// What a call over a disk leaves.
 #[derive(Drop)]
 pub(crate) struct Left<D> {
     pub(crate) status: u8,
@@ -161,15 +167,15 @@ pub(crate) struct Left<D> {
     pub(crate) disk: D,
 }
 
-// What a command of the shop leaves over a disk.
-pub(crate) fn command_over<R: Threads + Sync, D: Disk + Send + Drop>(
+// What a call leaves over a disk, beside the shop's configuration and the rows of its documents.
+pub(crate) fn call_over<R: Threads + Sync, D: Disk + Send + Drop>(
     rt: &R,
     alloc: Global,
-    command: &str,
+    asked: &[&str],
     input: &str,
     disk: D,
 ) -> Result<Left<D>, AllocError> {
-    let words = words(alloc, command)?;
+    let words = words(alloc, asked)?;
     let mut shelf = MemoryShelf::new(files(alloc, SHOP)?);
     let mut source = MemorySource::new(List::from_slice(alloc, input.as_bytes())?, 64);
     let mut out = MemorySink::new(alloc, 64);
@@ -196,7 +202,7 @@ fn run_from<R: Threads + Sync>(
     outputs: &mut Outputs,
 ) -> Result<u8, AllocError> {
     let [_, read, _, _] = given.numbers();
-    let words = words(alloc, "run")?;
+    let words = words(alloc, &["run", "shop.toml"])?;
     let mut input = source(alloc, given, read)?;
     let Outputs { out, err } = outputs;
     Ok(run_on(rt, alloc, words.as_slice(), shelf, &mut input, out, err))

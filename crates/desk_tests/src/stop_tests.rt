@@ -1,6 +1,6 @@
 //! Each call of the disk fails in turn: what was replied before it, and what each image of a crash
 //! then opens with.
-use crate::shop::{Left, calls, command_over};
+use crate::shop::{Left, call_over, calls};
 use reg_io::{CrashImage, FailingDisk, MemoryDisk};
 use std::alloc::{AllocError, Global};
 use std::thread::Threads;
@@ -22,6 +22,34 @@ const REPLIES: [&str; 4] = [
 {\"ok\":{\"active\":true,\"doc\":2,\"state\":\"posted\"}}
 {\"ok\":{\"active\":true,\"doc\":3,\"state\":\"posted\"}}\n",
 ];
+
+// What an import writes of the first of its documents; of all with their counts.
+const TOLD: [&str; 4] = [
+    "",
+    "a posted 1\n",
+    "a posted 1\nb posted 2\n",
+    "a posted 1\nb posted 2\nc posted 3\nposted 3 there 0 refused 0\n",
+];
+
+// A call that posts three documents, and what it writes of the first of them.
+#[derive(Clone, Copy)]
+struct Posting {
+    asked: &'static [&'static str],
+    input: &'static str,
+    told: &'static [&'static str; 4],
+}
+
+const RUN: Posting = Posting {
+    asked: &["run", "shop.toml"],
+    input: DOCUMENTS,
+    told: &REPLIES,
+};
+
+const IMPORT: Posting = Posting {
+    asked: &["import", "shop.toml", "rows.csv"],
+    input: "",
+    told: &TOLD,
+};
 
 // What a check writes of so many.
 const COUNTS: [&str; 4] = [
@@ -76,38 +104,48 @@ fn opens_with<R: Threads + Sync>(
 ) -> Result<bool, AllocError> {
     let bytes = left.disk.disk.after_crash(image)?;
     let disk = MemoryDisk::holding(alloc, bytes)?;
-    let checked = command_over(rt, alloc, "check", "", disk)?;
+    let checked = call_over(rt, alloc, &["check", "shop.toml"], "", disk)?;
     Ok(checked.status == 0 && is_text(checked.out.bytes.as_slice(), &COUNTS, documents))
 }
 
-// Whether a run whose call of this number fails ends with this status, behind so many replies, and
-// a read and the other images of a crash have so many documents.
+// Whether a posting whose call of this number fails ends with this status, behind so many documents
+// that were told, and a read and the other images of a crash have so many documents.
 fn stops<R: Threads + Sync>(
     rt: &R,
     alloc: Global,
+    posting: &Posting,
     number: u64,
     row: &(u64, u64, u8, usize, usize),
 ) -> Result<bool, AllocError> {
-    let (_, _, status, replied, read) = *row;
+    let (_, _, status, told, read) = *row;
     let disk = FailingDisk::new(MemoryDisk::new(alloc), calls(alloc, number)?);
-    let left = command_over(rt, alloc, "run", DOCUMENTS, disk)?;
+    let left = call_over(rt, alloc, posting.asked, posting.input, disk)?;
     Ok(
         left.status == status
-            && is_text(left.out.bytes.as_slice(), &REPLIES, replied)
+            && is_text(left.out.bytes.as_slice(), posting.told, told)
             && opens_with(rt, alloc, &left, CrashImage::AsRead, read)?
-            && opens_with(rt, alloc, &left, CrashImage::Confirmed, replied)?
-            && opens_with(rt, alloc, &left, CrashImage::Scrambled, replied)?,
+            && opens_with(rt, alloc, &left, CrashImage::Confirmed, told)?
+            && opens_with(rt, alloc, &left, CrashImage::Scrambled, told)?,
     )
 }
 
-#[test]
-fn each_stop_leaves_what_was_acknowledged(rt: HostRuntime) -> Result<(), Stop> {
+fn each_stop<R: Threads + Sync>(rt: &R, alloc: Global, posting: &Posting) -> Result<(), Stop> {
     for row in &STOPS {
         for number in row.0..=row.1 {
-            if !stops(&rt, rt.alloc(), number, row)? {
+            if !stops(rt, alloc, posting, number, row)? {
                 return Err(Stop::Call(number));
             }
         }
     }
     Ok(())
+}
+
+#[test]
+fn each_stop_of_a_run_leaves_what_was_acknowledged(rt: HostRuntime) -> Result<(), Stop> {
+    each_stop(&rt, rt.alloc(), &RUN)
+}
+
+#[test]
+fn each_stop_of_an_import_leaves_what_was_told(rt: HostRuntime) -> Result<(), Stop> {
+    each_stop(&rt, rt.alloc(), &IMPORT)
 }

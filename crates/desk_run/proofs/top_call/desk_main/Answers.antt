@@ -2,7 +2,7 @@ use Rattle.desk_run.proofs.AnsweredLaws.{call_laws, call_order}
 use Rattle.desk_run.proofs.CallEnds.{status-usage}
 use Rattle.desk_run.proofs.Completeness.{call_completes}
 use Rattle.std.specs.Prelude.{map, string_bytes}
-use Rattle.desk_run.specs.ConfigFiles.{shelf_of}
+use Rattle.desk_run.specs.Files.{shelf_of}
 use Rattle.desk_run.specs.Runs.{streams_of}
 use Rattle.desk_run.proofs.top_call.desk_main.Goals as goal
 
